@@ -131,11 +131,46 @@ impl<T> List<T> {
     }
 
     /// Appends an item. The list is unchanged after want of memory.
-    pub fn push(&mut self, item: T) -> Result<(), NoMemory> where T: Drop
+    pub fn push(&mut self, item: T) -> Result<(), NoMemory>
+    where
+        T: Drop,
         ensures ok { OnOk result (self.new ≡ self.old ++ item ∷ []) }
         ensures err { OnErr result (self.new ≡ self.old) }
     {
         self.items.push(item)?;
         Ok(())
+    }
+}
+
+impl<T: Duplicate> Duplicate for List<T> {
+    fn copy(&self) -> Result<List<T>, NoMemory> {
+        let mut items = Vec::with_capacity(*self.items.allocator(), self.items.len())?;
+        for item in self.items.iter() {
+            items.push(item.copy()?)?;
+        }
+        Ok(List { items })
+    }
+}
+
+impl<T: Duplicate> Clone for List<T> {
+    ghost is_clone = { λ s t. t ≡ s };
+
+    fn clone(&self) -> Result<List<T>, AllocError> {
+        match self.copy() {
+            Ok(other) => Ok(other),
+            Err(NoMemory) => Err(AllocError),
+        }
+    }
+}
+
+impl<T: PartialEq> PartialEq for List<T> {
+    ghost use Rattle.std.specs.Cmp.Lexicographic.{pointwise, lists_per};
+
+    ghost eq = { pointwise T.eq };
+
+    ghost laws = { lists_per T.laws };
+
+    fn eq(&self, other: &List<T>) -> bool {
+        self.items == other.items
     }
 }

@@ -1,0 +1,6 @@
+-- Bytes that are ASCII are a text, so reading them never fails.
+use Rattle.std.proofs.lemmas.Str.{IsUtf8-from_ascii}
+use Rattle.ax_types.proofs.names.text_of.Goals as goal
+
+pub unreachable-requires : goal.unreachable-requires
+unreachable-requires c = absurd (c.in-Err.ensures.cases.0 (IsUtf8-from_ascii c.args.bytes.now c.requires))

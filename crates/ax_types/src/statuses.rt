@@ -1,0 +1,37 @@
+/// Why a script was refused.
+#[derive(Clone, Copy, Debug, PartialEq, Eq)]
+pub enum Why {
+    Cluster,
+    LineTooLong,
+    TooLong,
+    Grammar,
+    NoSession,
+    /// A form of the grammar that the program does not run yet.
+    NotBuilt,
+}
+
+/// Why an input was no report.
+#[derive(Clone, Copy, Debug, PartialEq, Eq)]
+pub enum ReportWhy {
+    TooLong,
+    Json,
+    Shape,
+}
+
+/// How a run of the program ended.
+#[derive(Clone, Copy, Debug, PartialEq, Eq)]
+pub enum Status {
+    Done,
+    Usage,
+    Script { line: u64, why: Why },
+    ReadFault,
+    WriteFault,
+    NoMemory,
+    StoreNotEmpty { node: u8 },
+    StoreFault { node: u8 },
+    StepLimit { line: u64 },
+    NoThread,
+    StoreBad { node: u8, at: u64 },
+    NotReport { why: ReportWhy },
+    NoMajority { good: u8, nodes: u8 },
+}
