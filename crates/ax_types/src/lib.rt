@@ -8,7 +8,10 @@ mod lists;
 mod names;
 mod ops;
 mod packets;
+mod raft;
 mod replies;
+mod scripts;
+mod sessions;
 mod statuses;
 mod steps;
 
@@ -23,6 +26,12 @@ pub use ops::{
     TopicQuery, ValueOp, ValueQuery, WindowCall,
 };
 pub use packets::{Packet, Payload, PayloadKind};
+pub use raft::{Change, NodeInput, Out, RaftInput, RaftStep, Saves};
 pub use replies::{Event, How, Outcome, Reply, Turn};
+pub use scripts::{CallerLine, Command, Line, Report, RunEnd, Script};
+pub use sessions::{
+    Applied, Asked, AskedCall, ClientOut, ClientState, Got, Heard, Held, KeptReply, Ready,
+    Released, ServerInput, ServerOut, SessionState,
+};
 pub use statuses::{ReportWhy, Status, Why};
 pub use steps::{KeptStep, Step, StepOutcome, WatchKind};
