@@ -1,0 +1,9 @@
+pub mod Limits
+pub mod Dict
+pub mod Resources
+pub mod Scalars
+pub mod MapTurn
+pub mod Owners
+pub mod Collections
+pub mod Book
+pub mod History

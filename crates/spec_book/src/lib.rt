@@ -1,0 +1,2 @@
+//! Definitions of histories, resources and the book that a history makes.
+#![tactic(auto)]
