@@ -1,0 +1,9 @@
+pub mod Transcript
+pub mod Once
+pub mod Right
+pub mod Reads
+pub mod Heard
+pub mod Outcomes
+pub mod Faithful
+pub mod Handed
+pub mod Payloads
