@@ -140,6 +140,17 @@ impl<T> List<T> {
         self.items.push(item)?;
         Ok(())
     }
+
+    /// Appends all items of a slice. The list is unchanged after want of memory.
+    pub fn extend_from_slice(&mut self, items: &[T]) -> Result<(), NoMemory>
+    where
+        T: Copy,
+        ensures ok { OnOk result (self.new ≡ self.old ++ items.now) }
+        ensures err { OnErr result (self.new ≡ self.old) }
+    {
+        self.items.extend_from_slice(items)?;
+        Ok(())
+    }
 }
 
 impl<T: Duplicate> Duplicate for List<T> {

@@ -1,0 +1,182 @@
+ghost use Rattle.std.specs.Prelude.{◌≡◌, ◌⊎◌, ℕ, min, ◌++◌, [], length, take, Some, OnOk, OnErr, IfOk, IsErr, IsNone, IsTrue, ◌↔◌, ◌≤◌, Result, unwrap_or};
+ghost use Rattle.ax_io.specs.Count.{Counted, one_more};
+ghost use Rattle.ax_io.specs.Content.{append_told, prepend_told, Moves, MovesNothing, TakesFront};
+
+use super::{Failed, Sink, Source};
+use ax_types::List;
+use std::alloc::Global;
+use std::marker::Model;
+
+/// A source of bytes in memory, which fails at given calls. Any call moves as many bytes as it can.
+#[derive(Debug, Drop)]
+pub struct MemSource {
+    bytes: List<u8>,
+    next: usize,
+    failing: List<u64>,
+    calls: u64,
+    faults: u64,
+}
+
+impl Model for MemSource {
+    ghost use Rattle.std.specs.Prelude.{drop, ◌≤◌, length};
+    ghost use Rattle.ax_io.specs.Memory.{MemInput};
+
+    ghost Value = { MemInput };
+
+    ghost view = { λ a. record {
+      content = drop a.next a.bytes;
+      failing = a.failing;
+      calls = a.calls;
+      faults = a.faults;
+    } };
+
+    ghost invariant = { λ a. a.next ≤ length a.bytes };
+}
+
+impl MemSource {
+    /// The source of these bytes. Each number names a call that fails, counted from 1 over all calls
+    /// of this source.
+    pub fn new(bytes: List<u8>, failing: List<u64>) -> MemSource
+        ensures { result ≡ record { content = bytes; failing = failing; calls = 0; faults = 0 } }
+    {
+        MemSource {
+            bytes,
+            next: 0,
+            failing,
+            calls: 0,
+            faults: 0,
+        }
+    }
+}
+
+impl Source for MemSource {
+    ghost use Rattle.ax_io.specs.Memory.{fails_next, after_read, buffer_after_read};
+
+    ghost faults = { λ s. s.faults };
+
+    ghost content = { λ s. Some s.content };
+
+    fn read(&mut self, buf: &mut [u8]) -> Result<usize, Failed>
+        ensures counted { Counted self.old.faults self.new.faults result }
+        ensures ok { IfOk result (λ n. Moves (Some self.old.content) (Some self.new.content) n buf.old buf.new) }
+        ensures failed { OnErr result (MovesNothing (Some self.old.content) (Some self.new.content) buf.old buf.new) }
+
+        ensures named { IsErr result ↔ IsTrue (fails_next self.old) }
+        ensures count { IfOk result (λ n. n ≡ min (length buf.old) (length self.old.content)) }
+        ensures after { self.new ≡ after_read self.old (length buf.old) }
+        ensures buffer { buf.new ≡ buffer_after_read self.old buf.old }
+    {
+        self.calls = self.calls.saturating_add(1);
+        if self.failing.as_slice().contains(&self.calls) {
+            self.faults = self.faults.saturating_add(1);
+            return Err(Failed);
+        }
+        let rest = &self.bytes.as_slice()[self.next..];
+        let n = rest.len().min(buf.len());
+        buf[..n].copy_from_slice(&rest[..n]);
+        self.next += n;
+        Ok(n)
+    }
+}
+
+/// A sink that keeps its bytes in memory, and fails at given calls. Want of memory is a fault of it.
+#[derive(Debug, Drop)]
+pub struct MemSink {
+    taken: List<u8>,
+    failing: List<(u64, u64)>,
+    calls: u64,
+    faults: u64,
+}
+
+impl Model for MemSink {
+    ghost use Rattle.ax_io.specs.Memory.{MemOutput};
+
+    ghost Value = { MemOutput };
+
+    ghost view = { λ a. record {
+      content = a.taken;
+      failing = a.failing;
+      calls = a.calls;
+      faults = a.faults;
+    } };
+}
+
+impl MemSink {
+    ghost use Rattle.ax_io.specs.Memory.{kept_next};
+
+    /// A sink with no bytes. The first of each pair names a call that fails, counted from 1 over all
+    /// calls of this sink, and the second is the number of bytes kept of that call, where it has so
+    /// many. Of two pairs for one call the first counts.
+    pub fn new(alloc: Global, failing: List<(u64, u64)>) -> MemSink
+        ensures { result ≡ record { content = []; failing = failing; calls = 0; faults = 0 } }
+    {
+        MemSink {
+            taken: List::new(alloc),
+            failing,
+            calls: 0,
+            faults: 0,
+        }
+    }
+
+    /// The bytes taken so far.
+    pub fn taken(&self) -> &List<u8>
+        ensures { result.now ≡ self.now.content }
+    {
+        &self.taken
+    }
+
+    /// How many bytes are kept of the next call, where it is one that fails.
+    fn kept_next(&self) -> Option<u64>
+        ensures { result ≡ kept_next self.now }
+    {
+        let call = self.calls.saturating_add(1);
+        self.failing
+            .iter()
+            .find(|pair| pair.0 == call)
+            .map(|pair| pair.1)
+    }
+
+    /// Counts a call that failed.
+    fn count_fault(&mut self) -> Failed
+        ensures counted { self.new ≡ record self.old {
+          calls = one_more self.old.calls;
+          faults = one_more self.old.faults;
+        } }
+        ensures never_falls { self.old.faults ≤ self.new.faults }
+    {
+        self.calls = self.calls.saturating_add(1);
+        self.faults = self.faults.saturating_add(1);
+        Failed
+    }
+}
+
+impl Sink for MemSink {
+    ghost use Rattle.ax_io.specs.Memory.{kept_next, after_put, after_fault};
+
+    ghost faults = { λ s. s.faults };
+
+    ghost content = { λ s. Some s.content };
+
+    // After want of memory nothing is kept, also of a call that fails by its number.
+    fn put(&mut self, bytes: &[u8]) -> Result<(), Failed>
+        ensures counted { Counted self.old.faults self.new.faults result }
+        ensures ok { OnOk result (Some self.new.content ≡ append_told (Some self.old.content) bytes.now) }
+        ensures failed { OnErr result (TakesFront (Some self.old.content) (Some self.new.content) bytes.now) }
+
+        ensures not_named { OnOk result (IsNone (kept_next self.old)) }
+        ensures after { OnOk result (self.new ≡ after_put self.old bytes.now) }
+        ensures after_failed { OnErr result ((self.new ≡ after_fault self.old [])
+            ⊎ (self.new ≡ after_fault self.old (take (unwrap_or (kept_next self.old) 0) bytes.now))) }
+    {
+        if let Some(kept) = self.kept_next() {
+            let kept = bytes.len().min(kept as usize);
+            let _ = self.taken.extend_from_slice(&bytes[..kept]);
+            return Err(self.count_fault());
+        }
+        if self.taken.extend_from_slice(bytes).is_err() {
+            return Err(self.count_fault());
+        }
+        self.calls = self.calls.saturating_add(1);
+        Ok(())
+    }
+}
