@@ -1,0 +1,4 @@
+pub mod Counts
+pub mod Logs
+pub mod Votes
+pub mod Acks
