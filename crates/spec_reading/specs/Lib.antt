@@ -1,0 +1,5 @@
+pub mod Reading
+pub mod Operations
+pub mod Queries
+pub mod Answers
+pub mod Packets

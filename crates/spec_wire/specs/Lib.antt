@@ -1,0 +1,4 @@
+pub mod Numbers
+pub mod Resources
+pub mod Spelling
+pub mod Ranges
