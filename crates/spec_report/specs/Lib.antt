@@ -1,0 +1,5 @@
+pub mod Calls
+pub mod Replies
+pub mod Items
+pub mod Report
+pub mod Json

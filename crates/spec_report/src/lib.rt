@@ -1,0 +1,2 @@
+//! What a report's text and its JSON form are. Definitions alone.
+#![tactic(auto)]
