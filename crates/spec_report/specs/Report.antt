@@ -77,4 +77,4 @@ caller_text caller number outcome =
 abbrev pub feed_text : ℕ → ℕ → WatchKind → ℕ → ℕ → Event → List ℕ
 feed_text feed client kind session place event =
     three_operands (codes "feed") (decimal feed) (decimal client)
-        (three_operands (watch_text kind) (decimal session) (decimal place) (event_text event ++ (10 ∷ [])))
+    (three_operands (watch_text kind) (decimal session) (decimal place) (event_text event ++ (10 ∷ [])))
