@@ -1,0 +1,6 @@
+pub mod Calls
+pub mod Replies
+pub mod Items
+pub mod Report
+pub mod Json
+pub mod Examples
