@@ -3,7 +3,7 @@ ghost use Rattle.spec_book.specs.Resources.{new_value, replied, tell};
 ghost use Rattle.spec_book.specs.Scalars.{value_act, value_ask, value_unlistened, holds_text, old_text};
 
 use ax_types::{Duplicate, Event, List, Name, NoMemory, Reply, Text, Turn, ValueOp, ValueQuery};
-use res_listeners::Listeners;
+use res_sessions::Listeners;
 use std::alloc::Global;
 use std::marker::Model;
 
