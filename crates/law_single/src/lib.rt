@@ -1,0 +1,10 @@
+//! Laws of the narrow run: each run of one node and one client is faithful to its history.
+#![tactic(auto)]
+
+ghost use Rattle.law_single.specs.Laws.{NarrowRunsAreFaithful};
+
+/// Each narrow run of quiet calls is faithful to its history, at any session timeout.
+pub fn narrow_run_is_faithful()
+    ensures { NarrowRunsAreFaithful }
+{
+}
