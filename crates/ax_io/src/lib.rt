@@ -10,6 +10,8 @@ mod in_memory;
 mod sinks;
 mod sources;
 mod standard;
+#[cfg(test)]
+mod tests;
 
 pub use faults::Failed;
 pub use in_memory::{MemSink, MemSource};

@@ -1,8 +1,11 @@
 -- The lines of the items of a run, and which calls of a run are without an outcome.
-use Rattle.std.specs.Prelude.{ℕ, Bool, not, ◌&&◌, nat_eq, Option, Some, None, List, [], ◌∷◌, ◌++◌, length, map, filter, codes}
+use Rattle.std.specs.Prelude.{ℕ, Bool, not, ◌&&◌, nat_eq, Option, Some, None, List, [], ◌∷◌, ◌++◌, map, filter, codes}
 use Rattle.std.specs.List.{filter_map, list_any}
 use Rattle.std.specs.Fmt.{decimal}
 use Rattle.ax_types.specs.Ends.{end_text as link_end_text}
+use Rattle.ax_types.specs.declared.ops.Level.{Level}
+use Rattle.ax_types.specs.declared.replies.Reply.{Reply}
+use Rattle.ax_types.specs.declared.replies.Event.{Event}
 use Rattle.ax_types.specs.declared.packets.PayloadKind.{PayloadKind}
 use Rattle.ax_types.specs.declared.packets.PayloadKind.TheVariants as kind
 use Rattle.ax_types.specs.declared.steps.WatchKind.{WatchKind}
@@ -12,7 +15,7 @@ use Rattle.ax_types.specs.declared.items.SkipReason.TheVariants as skip
 use Rattle.ax_types.specs.declared.items.Item.{Item}
 use Rattle.ax_types.specs.declared.items.Item.TheVariants as item
 use Rattle.spec_report.specs.Calls.{one_operand, two_operands, three_operands, level_text, call_text}
-use Rattle.spec_report.specs.Replies.{reply_text, event_text, events_text, how_text}
+use Rattle.spec_report.specs.Replies.{reply_text, event_text, counted_events_text, how_text}
 
 -- lines, each with the newline that ends it
 abbrev pub lines_text : List (List ℕ) → List ℕ
@@ -70,23 +73,32 @@ reach_text (Some reach) = arrival_text reach.0 reach.1
 abbrev pub of_call : List ℕ → ℕ → ℕ → List ℕ
 of_call word session number = two_operands word (decimal session) (decimal number)
 
+-- `WORD LEVEL P REACH REPLY`
+abbrev pub read_text : List ℕ → Level → ℕ → Option (ℕ × ℕ) → Reply → List ℕ
+read_text word level place reach reply =
+    two_operands (two_operands word (level_text level) (decimal place)) (reach_text reach) (reply_text reply)
+
+-- `WORD S P EVENT`
+abbrev pub told_text : List ℕ → ℕ → ℕ → Event → List ℕ
+told_text word session place event = three_operands word (decimal session) (decimal place) (event_text event)
+
 -- the line of an item, without its newline
 abbrev pub item_line : Item → List ℕ
 item_line (item.Leader node term) = two_operands (codes "leader") (decimal node) (decimal term)
 item_line (item.Commit place) = one_operand (codes "commit") (decimal place)
 item_line (item.Reach node term arrival session number) =
-    three_operands (codes "reach") (decimal node) (arrival_text term arrival) (decimal session ++ (32 ∷ decimal number))
+    of_call (two_operands (codes "reach") (decimal node) (arrival_text term arrival)) session number
 item_line (item.Halted node) = one_operand (codes "halted") (decimal node)
 item_line (item.Opened session client) = two_operands (codes "opened") (decimal session) (decimal client)
 item_line (item.Called session number call) = one_operand (of_call (codes "called") session number) (call_text call)
 item_line (item.Event session place prev events) =
-    of_call (codes "event") session place ++ (32 ∷ (decimal prev ++ (32 ∷ (decimal (length events) ++ events_text events))))
+    two_operands (of_call (codes "event") session place) (decimal prev) (counted_events_text events)
 item_line (item.Watched client kind session place event) =
-    three_operands (codes "watch") (decimal client) (watch_text kind) (two_operands (decimal session) (decimal place) (event_text event))
+    told_text (two_operands (codes "watch") (decimal client) (watch_text kind)) session place event
 item_line (item.Reply session number place reply) =
     two_operands (of_call (codes "reply") session number) (decimal place) (reply_text reply)
 item_line (item.Read session number level place reach reply) =
-    three_operands (of_call (codes "read") session number) (level_text level) (decimal place) (one_operand (reach_text reach) (reply_text reply))
+    read_text (of_call (codes "read") session number) level place reach reply
 item_line (item.Ended session place how) = one_operand (of_call (codes "ended") session place) (how_text how)
 item_line (item.Doubt session number) = of_call (codes "doubt") session number
 item_line (item.Lost session number) = of_call (codes "lost") session number
@@ -94,7 +106,7 @@ item_line (item.Unsent session number) = of_call (codes "unsent") session number
 item_line (item.Unanswered session number) = of_call (codes "unanswered") session number
 item_line (item.Listed count) = one_operand (codes "listed") (decimal count)
 item_line (item.Pending number from to kind) =
-    three_operands (codes "pending") (decimal number) (link_end_text from) (one_operand (link_end_text to) (payload_kind_text kind))
+    two_operands (two_operands (codes "pending") (decimal number) (link_end_text from)) (link_end_text to) (payload_kind_text kind)
 item_line (item.Skip reason) = one_operand (codes "skip") (skip_text reason)
 
 -- the line of an item, with its newline

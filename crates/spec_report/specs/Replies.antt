@@ -1,5 +1,5 @@
 -- How replies, events and the ends of sessions are written.
-use Rattle.std.specs.Prelude.{ℕ, List, [], ◌∷◌, ◌++◌, codes}
+use Rattle.std.specs.Prelude.{ℕ, List, [], ◌∷◌, ◌++◌, length, codes}
 use Rattle.std.specs.Fmt.{decimal, signed_decimal}
 use Rattle.ax_types.specs.declared.replies.Reply.{Reply}
 use Rattle.ax_types.specs.declared.replies.Reply.TheVariants as reply
@@ -48,6 +48,10 @@ event_text (event.Message name text) = two_operands (codes "message") name text
 abbrev pub events_text : List Event → List ℕ
 events_text [] = []
 events_text (e ∷ es) = 32 ∷ (event_text e ++ events_text es)
+
+-- how many events there are, and each behind a blank
+abbrev pub counted_events_text : List Event → List ℕ
+counted_events_text events = decimal (length events) ++ events_text events
 
 abbrev pub how_text : How → List ℕ
 how_text how.Closed = codes "closed"

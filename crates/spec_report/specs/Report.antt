@@ -10,9 +10,9 @@ use Rattle.ax_types.specs.declared.replies.Outcome.{Outcome}
 use Rattle.ax_types.specs.declared.replies.Outcome.TheVariants as outcome
 use Rattle.ax_types.specs.declared.scripts.RunEnd.{RunEnd}
 use Rattle.ax_types.specs.declared.scripts.RunEnd.TheVariants as run_end
-use Rattle.spec_report.specs.Calls.{one_operand, two_operands, three_operands, level_text, op_text}
-use Rattle.spec_report.specs.Replies.{reply_text, event_text}
-use Rattle.spec_report.specs.Items.{lines_text, watch_text, reach_text, items_text, waiting_of, waiting_text}
+use Rattle.spec_report.specs.Calls.{one_operand, two_operands, three_operands, op_text}
+use Rattle.spec_report.specs.Replies.{reply_text}
+use Rattle.spec_report.specs.Items.{lines_text, watch_text, read_text, told_text, items_text, waiting_of, waiting_text}
 
 abbrev pub act_text : Act → List ℕ
 act_text act.Nothing = codes "nothing"
@@ -44,11 +44,11 @@ abbrev pub end_word : RunEnd → List ℕ
 end_word run_end.Done = codes "done"
 end_word (run_end.StepLimit line) = one_operand (codes "step-limit") (decimal line)
 
--- the last line
+-- the last line, with its newline
 abbrev pub end_text : RunEnd → List ℕ
-end_text end = codes "end " ++ (end_word end ++ (10 ∷ []))
+end_text end = one_operand (codes "end") (end_word end) ++ (10 ∷ [])
 
--- the first line
+-- the first line, with its newline
 abbrev pub head_text : List ℕ
 head_text = codes "report 1\n"
 
@@ -60,21 +60,19 @@ report_text items history end =
 -- what became of a caller's call. A caller whose call was stopped writes no line of it.
 abbrev pub outcome_text : Outcome → List ℕ
 outcome_text (outcome.Reply place reply) = two_operands (codes "reply") (decimal place) (reply_text reply)
-outcome_text (outcome.Read level place reach reply) =
-    three_operands (codes "read") (level_text level) (decimal place) (one_operand (reach_text reach) (reply_text reply))
+outcome_text (outcome.Read level place reach reply) = read_text (codes "read") level place reach reply
 outcome_text outcome.Doubt = codes "doubt"
 outcome_text outcome.Lost = codes "lost"
 outcome_text outcome.Unsent = codes "unsent"
 outcome_text outcome.Unanswered = codes "unanswered"
 outcome_text outcome.Stopped = []
 
--- the line of a caller's call, with the number of the call in the session: `caller I N OUTCOME`
+-- the line of a caller's call, with the number of the call in the session, and with its newline: `caller I N OUTCOME`
 abbrev pub caller_text : ℕ → ℕ → Outcome → List ℕ
 caller_text caller number outcome =
-    three_operands (codes "caller") (decimal caller) (decimal number) (outcome_text outcome ++ (10 ∷ []))
+    three_operands (codes "caller") (decimal caller) (decimal number) (outcome_text outcome) ++ (10 ∷ [])
 
--- the line of an event that a feed's listener heard: `feed F C KIND S P EVENT`
+-- the line of an event that a feed's listener heard, with its newline: `feed F C KIND S P EVENT`
 abbrev pub feed_text : ℕ → ℕ → WatchKind → ℕ → ℕ → Event → List ℕ
 feed_text feed client kind session place event =
-    three_operands (codes "feed") (decimal feed) (decimal client)
-    (three_operands (watch_text kind) (decimal session) (decimal place) (event_text event ++ (10 ∷ [])))
+    told_text (three_operands (codes "feed") (decimal feed) (decimal client) (watch_text kind)) session place event ++ (10 ∷ [])

@@ -1,2 +1,2 @@
-//! The language of scripts: how calls and steps are written, and how bytes are read as a script. Definitions and their laws.
+//! How the words of a line are read: numbers, names, operations, queries and calls. Definitions and their laws.
 #![tactic(auto)]

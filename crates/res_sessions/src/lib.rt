@@ -1,0 +1,6 @@
+//! The sessions of a resource: those that listen, and those that stand in line.
+#![tactic(auto)]
+
+mod listeners;
+
+pub use listeners::{Listeners, MAX_LISTENERS};

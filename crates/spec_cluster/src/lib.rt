@@ -1,0 +1,2 @@
+//! The network, and a cluster of Raft nodes alone over it, as definitions: what every list of steps leads to.
+#![tactic(auto)]
