@@ -1,3 +1,4 @@
 pub mod Count
 pub mod Content
 pub mod Memory
+pub mod ReadError

@@ -2,7 +2,7 @@ ghost use Rattle.std.specs.Prelude.{◌≡◌, ◌⊎◌, ℕ, min, ◌++◌, []
 ghost use Rattle.ax_io.specs.Count.{Counted, one_more};
 ghost use Rattle.ax_io.specs.Content.{append_told, prepend_told, Moves, MovesNothing, TakesFront};
 
-use super::{Failed, Sink, Source};
+use super::{Failed, Faults, Sink, Source};
 use ax_types::List;
 use std::alloc::Global;
 use std::marker::Model;
@@ -14,7 +14,7 @@ pub struct MemSource {
     next: usize,
     failing: List<u64>,
     calls: u64,
-    faults: u64,
+    faults: Faults,
 }
 
 impl Model for MemSource {
@@ -44,7 +44,7 @@ impl MemSource {
             next: 0,
             failing,
             calls: 0,
-            faults: 0,
+            faults: Faults::new(),
         }
     }
 }
@@ -68,8 +68,7 @@ impl Source for MemSource {
     {
         self.calls = self.calls.saturating_add(1);
         if self.failing.as_slice().contains(&self.calls) {
-            self.faults = self.faults.saturating_add(1);
-            return Err(Failed);
+            return Err(self.faults.raise());
         }
         let rest = &self.bytes.as_slice()[self.next..];
         let n = rest.len().min(buf.len());
@@ -85,7 +84,7 @@ pub struct MemSink {
     taken: List<u8>,
     failing: List<(u64, u64)>,
     calls: u64,
-    faults: u64,
+    faults: Faults,
 }
 
 impl Model for MemSink {
@@ -114,7 +113,7 @@ impl MemSink {
             taken: List::new(alloc),
             failing,
             calls: 0,
-            faults: 0,
+            faults: Faults::new(),
         }
     }
 
@@ -134,19 +133,6 @@ impl MemSink {
             .iter()
             .find(|pair| pair.0 == call)
             .map(|pair| pair.1)
-    }
-
-    /// Counts a call that failed.
-    fn count_fault(&mut self) -> Failed
-        ensures counted { self.new ≡ record self.old {
-          calls = one_more self.old.calls;
-          faults = one_more self.old.faults;
-        } }
-        ensures never_falls { self.old.faults ≤ self.new.faults }
-    {
-        self.calls = self.calls.saturating_add(1);
-        self.faults = self.faults.saturating_add(1);
-        Failed
     }
 }
 
@@ -168,15 +154,16 @@ impl Sink for MemSink {
         ensures after_failed { OnErr result ((self.new ≡ after_fault self.old [])
             ⊎ (self.new ≡ after_fault self.old (take (unwrap_or (kept_next self.old) 0) bytes.now))) }
     {
-        if let Some(kept) = self.kept_next() {
+        let kept = self.kept_next();
+        self.calls = self.calls.saturating_add(1);
+        if let Some(kept) = kept {
             let kept = bytes.len().min(kept as usize);
             let _ = self.taken.extend_from_slice(&bytes[..kept]);
-            return Err(self.count_fault());
+            return Err(self.faults.raise());
         }
         if self.taken.extend_from_slice(bytes).is_err() {
-            return Err(self.count_fault());
+            return Err(self.faults.raise());
         }
-        self.calls = self.calls.saturating_add(1);
         Ok(())
     }
 }

@@ -5,7 +5,7 @@
 //! bytes they move.
 #![tactic(auto)]
 
-mod faults;
+mod failures;
 mod in_memory;
 mod sinks;
 mod sources;
@@ -13,7 +13,7 @@ mod standard;
 #[cfg(test)]
 mod tests;
 
-pub use faults::Failed;
+pub use failures::{Failed, Faults};
 pub use in_memory::{MemSink, MemSource};
 pub use sinks::{Sink, put_all};
 pub use sources::{ReadError, Source, read_up_to};

@@ -35,6 +35,11 @@ pub enum ReadError {
 }
 
 impl fmt::Display for ReadError {
+    ghost use Rattle.std.specs.Prelude.{Some};
+    ghost use Rattle.ax_io.specs.ReadError.{text_of};
+
+    ghost output = { λ e. Some (text_of e) };
+
     fn fmt<W: fmt::Write>(&self, f: &mut fmt::Formatter<W>) -> fmt::Result {
         match self {
             ReadError::Failed => f.write_str("a read failed"),

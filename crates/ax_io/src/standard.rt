@@ -1,6 +1,6 @@
 ghost use Rattle.std.specs.Prelude.{◌≡◌, ◌≤◌, length, None, IfSome};
 
-use super::{Failed, Sink, Source};
+use super::{Failed, Faults, Sink, Source};
 use std::io::{ErrorKind, Read, Write};
 use std::marker::Model;
 
@@ -10,7 +10,7 @@ use std::marker::Model;
 #[derive(Drop)]
 pub struct StdSource<R: Read> {
     reader: R,
-    faults: u64,
+    faults: Faults,
 }
 
 impl<R: Read> Model for StdSource<R> {
@@ -26,7 +26,10 @@ impl<R: Read> StdSource<R> {
     pub fn new(reader: R) -> StdSource<R>
         ensures { result ≡ 0 }
     {
-        StdSource { reader, faults: 0 }
+        StdSource {
+            reader,
+            faults: Faults::new(),
+        }
     }
 }
 
@@ -38,10 +41,7 @@ impl<R: Read> Source for StdSource<R> {
     fn read(&mut self, buf: &mut [u8]) -> Result<usize, Failed> {
         match read_some(&mut self.reader, buf) {
             Some(n) => Ok(n),
-            None => {
-                self.faults = self.faults.saturating_add(1);
-                Err(Failed)
-            }
+            None => Err(self.faults.raise()),
         }
     }
 }
@@ -69,7 +69,7 @@ fn read_some<R: Read>(reader: &mut R, buf: &mut [u8]) -> Option<usize>
 #[derive(Drop)]
 pub struct StdSink<W: Write> {
     writer: W,
-    faults: u64,
+    faults: Faults,
 }
 
 impl<W: Write> Model for StdSink<W> {
@@ -85,7 +85,10 @@ impl<W: Write> StdSink<W> {
     pub fn new(writer: W) -> StdSink<W>
         ensures { result ≡ 0 }
     {
-        StdSink { writer, faults: 0 }
+        StdSink {
+            writer,
+            faults: Faults::new(),
+        }
     }
 }
 
@@ -100,7 +103,6 @@ impl<W: Write> Sink for StdSink<W> {
         if self.writer.write_all(bytes).is_ok() && self.writer.flush().is_ok() {
             return Ok(());
         }
-        self.faults = self.faults.saturating_add(1);
-        Err(Failed)
+        Err(self.faults.raise())
     }
 }
