@@ -1,6 +1,10 @@
 //! How bytes are read as packets and entries, and the laws that tie reading to spelling.
 #![tactic(auto)]
 
+mod rows;
+
+pub use rows::{command_row, ended_row, vote_row};
+
 ghost use Rattle.std.specs.Prelude.{◌≡◌, ℕ, ◌≤◌, List as Items, [], ◌∷◌, ◌++◌, length, take, IsTrue};
 ghost use Rattle.ax_types.specs.declared.entries.Entry.{Entry};
 ghost use Rattle.ax_types.specs.declared.packets.Payload.{Payload};
