@@ -3,3 +3,4 @@ pub mod Operations
 pub mod Queries
 pub mod Answers
 pub mod Packets
+pub mod Rows

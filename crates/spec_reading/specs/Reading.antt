@@ -1,10 +1,14 @@
 -- Reading from the front of bytes: a value and the bytes after it, or why there is none.
-use Rattle.std.specs.Prelude.{ℕ, zero, suc, ℤ, Bool, true, false, List, [], ◌∷◌, ◌++◌, ◌-◌, length, take, drop, replicate, Result, Ok, Err, Option, Some, None, nat_lt, nat_le, nat_eq, ◌&&◌, if◌then◌else◌}
+use Rattle.std.specs.Prelude.{ℕ, ◌<◌, slice_index, zero, suc, ℤ, Bool, true, false, List, [], ◌∷◌, ◌++◌, ◌-◌, length, take, drop, replicate, Result, Ok, Err, Option, Some, None, nat_lt, nat_le, nat_eq, ◌&&◌, if◌then◌else◌}
 use Rattle.std.specs.List.{list_all}
 use Rattle.std.specs.Int.{w32, w64, from_be_bytes, cast_signed}
 use Rattle.ax_types.specs.Forms.{is_name_byte, is_text_byte}
 use Rattle.ax_types.specs.declared.ids.TheConstants.{MAX_CLIENTS}
 use Rattle.ax_types.specs.declared.names.TheConstants.{MAX_NAME, MAX_TEXT, MAX_LIFE}
+
+-- each number is a byte
+abbrev pub IsBytes : List ℕ → Type 0
+IsBytes bytes = (i : ℕ) → slice_index bytes i < 256
 
 -- why bytes begin with no whole spelling: they are a strict part of one, or no spelling begins as they do
 pub data Fault : Type 0 where

@@ -145,6 +145,10 @@ query_bytes (query.Queue q) = 7 ∷ queue_query_bytes q
 query_bytes (query.Multimap q) = 8 ∷ multimap_query_bytes q
 query_bytes (query.Topic topic_query.Subscribers) = 9 ∷ 1 ∷ []
 
+-- a count of four bytes, and the sessions
+abbrev pub members_bytes : List ℕ → List ℕ
+members_bytes sessions = u32_bytes (length sessions) ++ flat_map u64_bytes sessions
+
 -- a reply: its number and its fields
 abbrev pub reply_bytes : Reply → List ℕ
 reply_bytes reply.Done = 0 ∷ []
@@ -156,7 +160,7 @@ reply_bytes (reply.Number n) = 5 ∷ i64_bytes n
 reply_bytes (reply.Fence place) = 6 ∷ u64_bytes place
 reply_bytes (reply.Holder session fence) = 7 ∷ u64_bytes session ++ u64_bytes fence
 reply_bytes (reply.Leader session term) = 8 ∷ u64_bytes session ++ u64_bytes term
-reply_bytes (reply.Members sessions) = 9 ∷ u32_bytes (length sessions) ++ flat_map u64_bytes sessions
+reply_bytes (reply.Members sessions) = 9 ∷ members_bytes sessions
 reply_bytes reply.Busy = 10 ∷ []
 reply_bytes reply.Already = 11 ∷ []
 reply_bytes reply.NotHolder = 12 ∷ []

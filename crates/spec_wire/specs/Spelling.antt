@@ -8,6 +8,7 @@ use Rattle.ax_types.specs.declared.ops.Level.{Level}
 use Rattle.ax_types.specs.declared.ops.Level.TheVariants.{Seq, Lin}
 use Rattle.ax_types.specs.declared.replies.How.{How}
 use Rattle.ax_types.specs.declared.replies.How.TheVariants.{Closed, Expired}
+use Rattle.ax_types.specs.declared.replies.Event.{Event}
 use Rattle.ax_types.specs.declared.replies.Reply.{Reply}
 use Rattle.ax_types.specs.declared.replies.Reply.TheVariants as reply
 use Rattle.ax_types.specs.declared.packets.Payload.{Payload}
@@ -30,13 +31,21 @@ body_bytes (body.Expire session) = 5 ∷ u64_bytes session
 abbrev pub entry_bytes : Entry → List ℕ
 entry_bytes e = u64_bytes e.term ++ u64_bytes e.time ++ body_bytes e.body
 
-abbrev pub level_byte : Level → ℕ
-level_byte Seq = 0
-level_byte Lin = 1
+abbrev pub level_bytes : Level → List ℕ
+level_bytes Seq = 0 ∷ []
+level_bytes Lin = 1 ∷ []
 
-abbrev pub how_byte : How → ℕ
-how_byte Closed = 0
-how_byte Expired = 1
+abbrev pub how_bytes : How → List ℕ
+how_bytes Closed = 0 ∷ []
+how_bytes Expired = 1 ∷ []
+
+-- a count of one byte, and the entries
+abbrev pub entries_bytes : List Entry → List ℕ
+entries_bytes entries = length entries ∷ flat_map entry_bytes entries
+
+-- a count of four bytes, and the events
+abbrev pub events_bytes : List Event → List ℕ
+events_bytes events = u32_bytes (length events) ++ flat_map event_bytes events
 
 -- a payload: its number and its fields
 abbrev pub payload_bytes : Payload → List ℕ
@@ -44,7 +53,7 @@ payload_bytes (payload.Vote term last last_term) = 1 ∷ u64_bytes term ++ u64_b
 payload_bytes (payload.VoteReply term granted) = 2 ∷ u64_bytes term ++ truth_bytes granted
 payload_bytes (payload.Append term prev prev_term commit round entries) =
     3 ∷ u64_bytes term ++ u64_bytes prev ++ u64_bytes prev_term ++ u64_bytes commit ++ u64_bytes round
-        ++ length entries ∷ flat_map entry_bytes entries
+        ++ entries_bytes entries
 payload_bytes (payload.AppendReply term ok place round) =
     4 ∷ u64_bytes term ++ truth_bytes ok ++ u64_bytes place ++ u64_bytes round
 payload_bytes (payload.Register client opening) = 5 ∷ client ∷ u64_bytes opening
@@ -54,7 +63,7 @@ payload_bytes (payload.Command client session seq name op) =
     7 ∷ client ∷ u64_bytes session ++ u64_bytes seq ++ counted_bytes name ++ op_bytes op
 payload_bytes (payload.Close client session) = 8 ∷ client ∷ u64_bytes session
 payload_bytes (payload.Query client session call level seen seq name query) =
-    9 ∷ client ∷ u64_bytes session ++ u64_bytes call ++ level_byte level ∷ u64_bytes seen ++ u64_bytes seq
+    9 ∷ client ∷ u64_bytes session ++ u64_bytes call ++ level_bytes level ++ u64_bytes seen ++ u64_bytes seq
         ++ counted_bytes name ++ query_bytes query
 payload_bytes (payload.Connect client session heard) = 10 ∷ client ∷ u64_bytes session ++ u64_bytes heard
 payload_bytes (payload.Reset client session heard) = 11 ∷ client ∷ u64_bytes session ++ u64_bytes heard
@@ -63,11 +72,11 @@ payload_bytes (payload.Reply session seq place events reply) =
     13 ∷ u64_bytes session ++ u64_bytes seq ++ u64_bytes place ++ u64_bytes events ++ reply_bytes reply
 payload_bytes (payload.Gap session last) = 14 ∷ u64_bytes session ++ u64_bytes last
 payload_bytes (payload.Answer session call level place events term arrival reply) =
-    15 ∷ u64_bytes session ++ u64_bytes call ++ level_byte level ∷ u64_bytes place ++ u64_bytes events
+    15 ∷ u64_bytes session ++ u64_bytes call ++ level_bytes level ++ u64_bytes place ++ u64_bytes events
         ++ u64_bytes term ++ u64_bytes arrival ++ reply_bytes reply
 payload_bytes (payload.Batch session place prev events) =
-    16 ∷ u64_bytes session ++ u64_bytes place ++ u64_bytes prev ++ u32_bytes (length events) ++ flat_map event_bytes events
-payload_bytes (payload.Ended session place how) = 17 ∷ u64_bytes session ++ u64_bytes place ++ how_byte how ∷ []
+    16 ∷ u64_bytes session ++ u64_bytes place ++ u64_bytes prev ++ events_bytes events
+payload_bytes (payload.Ended session place how) = 17 ∷ u64_bytes session ++ u64_bytes place ++ how_bytes how
 
 -- how many bytes its spelling has
 abbrev pub payload_length : Payload → ℕ

@@ -1,0 +1,110 @@
+-- A journal, read byte by byte: what its whole records leave, and the bytes behind them.
+use Rattle.std.specs.Prelude.{ℕ, Bool, true, false, List, [], ◌∷◌, ◌++◌, ◌+◌, length, take, fold, Option, None, Result, Ok, Err, nat_eq, if◌then◌else◌, ◌&&◌, is_none}
+use Rattle.ax_types.specs.declared.entries.Entry.{Entry}
+use Rattle.ax_types.specs.declared.entries.Loaded.{Loaded}
+use Rattle.spec_reading.specs.Reading.{Reading, Part, Wrong}
+use Rattle.spec_journal.specs.Records.{Record, Vote, Cut, Plain, Count, Placed, record_bytes, record_at}
+
+pub record Journal : Type 0 where
+  -- the term, the vote and the log
+  pub content : Loaded
+  -- whether a record of the number of entries stands
+  pub counted : Bool
+  -- how many bytes the whole records have
+  pub whole : ℕ
+  -- the bytes behind them, that may yet become a record
+  pub torn : List ℕ
+  -- whether the byte behind the whole records belongs to no record that may stand there
+  pub bad : Bool
+
+abbrev pub nothing_kept : Loaded
+nothing_kept = record { term = 0; vote = None; log = [] }
+
+abbrev pub empty_journal : Journal
+empty_journal = record { content = nothing_kept; counted = false; whole = 0; torn = []; bad = false }
+
+-- what a record leaves: a cut to more entries than there are cuts nothing
+abbrev pub after_record : Loaded → Record → Loaded
+after_record c (Vote term vote) = record { term = term; vote = vote; log = c.log }
+after_record c (Cut last) = record { term = c.term; vote = c.vote; log = take last c.log }
+after_record c (Plain entry) = record { term = c.term; vote = c.vote; log = c.log ++ entry ∷ [] }
+after_record c (Count entries) = c
+after_record c (Placed place entry) = record { term = c.term; vote = c.vote; log = c.log ++ entry ∷ [] }
+
+-- whether a record of the number of entries stands, after this one
+abbrev pub counted_after : Bool → Record → Bool
+counted_after counted (Count entries) = true
+counted_after counted _ = counted
+
+-- the journal with one more whole record, of so many bytes
+abbrev pub with_record : Journal → Record → ℕ → Journal
+with_record j r size = record {
+  content = after_record j.content r;
+  counted = counted_after j.counted r;
+  whole = j.whole + size;
+  torn = [];
+  bad = false;
+}
+
+-- the journal whose bytes behind the whole records are these, as they are read
+abbrev pub with_torn : Journal → List ℕ → Reading Record → Journal
+with_torn j torn (Ok r) = with_record j r.0 (length torn)
+with_torn j torn (Err Part) = record { content = j.content; counted = j.counted; whole = j.whole; torn = torn; bad = false }
+with_torn j torn (Err Wrong) = record { content = j.content; counted = j.counted; whole = j.whole; torn = torn; bad = true }
+
+-- the journal with one byte more
+unfoldable pub fed : Journal → ℕ → Journal
+fed j byte =
+  if j.bad then j
+  else with_torn j (j.torn ++ byte ∷ []) (record_at j.counted (length j.content.log) (j.torn ++ byte ∷ []))
+
+-- the journal of these bytes
+abbrev pub journal_of : List ℕ → Journal
+journal_of bytes = fold fed empty_journal bytes
+
+-- what loading answers: what is kept, or the offset of the first byte that belongs to no whole record that may stand there
+abbrev pub loaded_of : Journal → Result Loaded ℕ
+loaded_of j = if j.bad then Err j.whole else Ok j.content
+
+-- 0 without a whole record, 2 where a record of the number of entries stands, else 1
+abbrev pub version_of : Journal → ℕ
+version_of j = if j.counted then 2 else if nat_eq j.whole 0 then 0 else 1
+
+-- the bytes with which the next append begins
+abbrev pub opening_bytes : Journal → List ℕ
+opening_bytes j = if j.counted then [] else record_bytes (Count (length j.content.log))
+
+-- the records of entries, the first of them at this place
+abbrev pub placed_bytes : ℕ → List Entry → List ℕ
+placed_bytes place [] = []
+placed_bytes place (entry ∷ entries) = record_bytes (Placed place entry) ++ placed_bytes (place + 1) entries
+
+-- what keeping a term and a vote appends
+abbrev pub vote_appends : Journal → ℕ → Option ℕ → List ℕ
+vote_appends j term vote = opening_bytes j ++ record_bytes (Vote term vote)
+
+-- what cutting the log appends
+abbrev pub cut_appends : Journal → ℕ → List ℕ
+cut_appends j last = opening_bytes j ++ record_bytes (Cut last)
+
+-- what adding entries appends: nothing where there is no entry
+abbrev pub add_appends : Journal → List Entry → List ℕ
+add_appends j [] = []
+add_appends j (entry ∷ entries) = opening_bytes j ++ placed_bytes (length j.content.log + 1) (entry ∷ entries)
+
+-- what an upgrade appends: a journal of version 1 becomes one of version 2
+abbrev pub upgrade_appends : Journal → List ℕ
+upgrade_appends j = if nat_eq (version_of j) 1 then opening_bytes j else []
+
+-- nothing is kept: no term, no vote and no entry
+abbrev pub is_nothing : Loaded → Bool
+is_nothing c = nat_eq c.term 0 && is_none c.vote && nat_eq (length c.log) 0
+
+-- what a store is to the one who looks for what is left of a cluster
+pub data Remains : Type 0 where
+  Nothing : Remains
+  Good : (content : Loaded) → Remains
+  Bad : (at : ℕ) → Remains
+
+abbrev pub remains_of : Journal → Remains
+remains_of j = if j.bad then Bad j.whole else if is_nothing j.content then Nothing else Good j.content

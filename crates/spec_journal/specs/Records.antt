@@ -1,0 +1,47 @@
+-- The records of a journal: what they say, how they are spelled, and how they are read.
+use Rattle.std.specs.Prelude.{ℕ, Bool, List, [], ◌∷◌, ◌++◌, ◌+◌, Option, None, Some, Ok, Err, nat_eq, if◌then◌else◌}
+use Rattle.ax_types.specs.declared.entries.Entry.{Entry}
+use Rattle.ax_types.specs.declared.ids.TheConstants.{MAX_NODES}
+use Rattle.spec_wire.specs.Numbers.{u64_bytes}
+use Rattle.spec_wire.specs.Spelling.{entry_bytes}
+use Rattle.spec_reading.specs.Reading.{Reading, ◌>>=◌, Wrong, byte_at, small_at, u64_at, within_at, one_field, two_fields}
+use Rattle.spec_reading.specs.Packets.{entry_at}
+
+-- A record: the term and the vote in it; the last place that stays; an entry of a journal of version 1;
+-- the number of entries, from which on each entry stands with its place; an entry with its place.
+pub data Record : Type 0 where
+  Vote : (term : ℕ) (vote : Option ℕ) → Record
+  Cut : (last : ℕ) → Record
+  Plain : (entry : Entry) → Record
+  Count : (entries : ℕ) → Record
+  Placed : (place : ℕ) (entry : Entry) → Record
+
+-- the node that was voted for, or 0
+abbrev pub vote_bytes : Option ℕ → List ℕ
+vote_bytes None = 0 ∷ []
+vote_bytes (Some node) = node ∷ []
+
+-- a record: its kind and its fields
+abbrev pub record_bytes : Record → List ℕ
+record_bytes (Vote term vote) = 0x11 ∷ u64_bytes term ++ vote_bytes vote
+record_bytes (Cut last) = 0x12 ∷ u64_bytes last
+record_bytes (Plain entry) = 0x13 ∷ entry_bytes entry
+record_bytes (Count entries) = 0x14 ∷ u64_bytes entries
+record_bytes (Placed place entry) = 0x15 ∷ u64_bytes place ++ entry_bytes entry
+
+abbrev pub vote_at : List ℕ → Reading (Option ℕ)
+vote_at bytes = do
+  node ← small_at 0 MAX_NODES bytes
+  if nat_eq node.0 0 then Ok (None, node.1) else Ok (Some node.0, node.1)
+
+-- A record that may stand behind so many entries, and behind a record of their number if `counted`.
+-- A number that is no longer the right one is wrong, though bytes of it lack.
+unfoldable pub record_at : Bool → ℕ → List ℕ → Reading Record
+record_at counted entries bytes = do
+  kind ← byte_at bytes
+  if nat_eq kind.0 0x11 then two_fields u64_at vote_at Vote kind.1 else
+    if nat_eq kind.0 0x12 then one_field u64_at Cut kind.1 else
+    if nat_eq kind.0 0x13 then (if counted then Err Wrong else one_field entry_at Plain kind.1) else
+    if nat_eq kind.0 0x14 then (if counted then Err Wrong else one_field (within_at entries entries) Count kind.1) else
+    if nat_eq kind.0 0x15 then (if counted then two_fields (within_at (entries + 1) (entries + 1)) entry_at Placed kind.1 else Err Wrong) else
+    Err Wrong
