@@ -20,15 +20,18 @@ flag name = record (new_rule name) { long = Some name; action = Some SetTrue }
 abbrev pub option : Text → Rule
 option name = record (new_rule name) { long = Some name; action = Some Set }
 
--- `axrun COMMAND [OPERAND] [--json] [--steps] [--nodes N] [--timeout T]`; the words do not hold the program's name, and there is
--- no flag for help and none for the version
+-- the words do not hold the program's name, and there is no flag for help and none for the version
+abbrev pub plain_axrun : App
+plain_axrun = on_top (λ s. record s { no_binary_name = true; disable_help_flag = true; disable_version_flag = true })
+    (new_app (codes "axrun"))
+
+-- `axrun COMMAND [OPERAND] [--json] [--steps] [--nodes N] [--timeout T]`
 unfoldable pub axrun : App
 axrun =
-    let plain : App = on_top (λ s. record s { no_binary_name = true; disable_help_flag = true; disable_version_flag = true })
-        (new_app (codes "axrun")) in
-    let placed : App = with_rule (with_rule plain (positional (codes "command") true)) (positional (codes "operand") false) in
-    let flagged : App = with_rule (with_rule placed (flag (codes "json"))) (flag (codes "steps")) in
-    with_rule (with_rule flagged (option (codes "nodes"))) (option (codes "timeout"))
+    with_rule (with_rule (with_rule (with_rule (with_rule (with_rule plain_axrun
+    (positional (codes "command") true)) (positional (codes "operand") false))
+    (flag (codes "json"))) (flag (codes "steps")))
+    (option (codes "nodes"))) (option (codes "timeout"))
 
 -- what the words give beside the command
 pub record Given : Type 0 where
