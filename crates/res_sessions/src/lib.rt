@@ -2,5 +2,7 @@
 #![tactic(auto)]
 
 mod listeners;
+mod queue;
 
 pub use listeners::{Listeners, MAX_LISTENERS};
+pub use queue::SessionQueue;

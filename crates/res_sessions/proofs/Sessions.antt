@@ -1,0 +1,158 @@
+-- Lists of sessions, each once: what an append and a removal leave of them.
+use Rattle.std.proofs.Common.{◌≡◌, ℕ, suc, ◌+◌, ◌<◌, ◌≤◌, not, Bool, true, false, cond, ◌||◌, nat_lt, List, [], ◌∷◌, ◌++◌, length, Option, Some, None, position, refl, sym, ap, ◌∙◌, subst, arith}
+use Rattle.std.proofs.lemmas.Bool.{false≢true, ltb-true, ltb-false}
+use Rattle.std.proofs.lemmas.Bool.Decides.{nat_tests}
+use Rattle.std.specs.List.{list_any, position_or_len, remove}
+use Rattle.std.proofs.lemmas.List.Quantifiers.{position-Some}
+use Rattle.std.specs.Prelude.{◌↔◌, IsSome, OnSome}
+use Rattle.std.specs.Ordering.{nat_cmp}
+use Rattle.std.specs.BTreeMap.{is_at}
+use Rattle.std.specs.Set.{remove_key}
+use Rattle.spec_book.specs.Dict.{has_session, without_session}
+use Rattle.res_sessions.specs.EachOnce.{EachOnce, IsIndexed}
+
+-- equal numbers are equal either way round
+pub is_at-sym : (a b : ℕ) → is_at (nat_cmp a) b ≡ is_at (nat_cmp b) a
+is_at-sym a b = grind (arith, nat_tests)
+
+-- a number that is equal to one is found where that one is
+pub has_session-at : (xs : List ℕ) (a b : ℕ) → is_at (nat_cmp a) b ≡ true → has_session xs a ≡ has_session xs b
+has_session-at xs a b e = let same : a ≡ b = grind (arith, nat_tests) in ap (has_session xs) same
+
+-- whether a session is among some sessions and one more
+pub has_session-push : (xs : List ℕ) (s q : ℕ) → has_session (xs ++ s ∷ []) q ≡ (has_session xs q || is_at (nat_cmp q) s)
+has_session-push [] s q = grind arith
+has_session-push (x ∷ xs) s q = grind (arith, has_session-push xs s q)
+
+pub EachOnce-push : (xs : List ℕ) (s : ℕ) → EachOnce xs → has_session xs s ≡ false → EachOnce (xs ++ s ∷ [])
+EachOnce-push [] s once absent = (refl, tt)
+EachOnce-push (x ∷ xs) s once absent =
+    (push_first x xs s once.0 absent, EachOnce-push xs s once.1 (or_right (is_at (nat_cmp s) x) (has_session xs s) absent))
+  where
+    or_right : (a b : Bool) → (a || b) ≡ false → b ≡ false
+    or_right a b h = grind arith
+
+    push_first : (x : ℕ) (xs : List ℕ) (s : ℕ) → has_session xs x ≡ false → (is_at (nat_cmp s) x || has_session xs s) ≡ false
+        → has_session (xs ++ s ∷ []) x ≡ false
+    push_first x xs s h absent = grind (arith, has_session-push xs s x, is_at-sym x s)
+
+-- a list without a session that it has not
+pub remove_key-absent : (p : ℕ → Bool) (xs : List ℕ) → list_any p xs ≡ false → remove_key p xs ≡ xs
+remove_key-absent p [] absent = refl
+remove_key-absent p (x ∷ xs) absent = step (p x) (list_any p xs) absent (remove_key-absent p xs)
+  where
+    step : (b any : Bool) → (b || any) ≡ false → (any ≡ false → remove_key p xs ≡ xs) → cond b xs (x ∷ remove_key p xs) ≡ x ∷ xs
+    step true any h rest = absurd (false≢true (sym h))
+    step false any h rest = ap (λ ys. x ∷ ys) (rest h)
+
+-- what three tests of equality among three numbers tell of one another
+pub three_tests : (s x q : ℕ) → (is_at (nat_cmp s) x ≡ true → is_at (nat_cmp s) q ≡ true → q ≡ x)
+    × (is_at (nat_cmp s) x ≡ true → is_at (nat_cmp s) q ≡ false → is_at (nat_cmp q) x ≡ false)
+    × (is_at (nat_cmp s) x ≡ false → is_at (nat_cmp s) q ≡ true → is_at (nat_cmp q) x ≡ false)
+three_tests s x q = (λ a b. grind (arith, nat_tests), λ a b. grind (arith, nat_tests), λ a b. grind (arith, nat_tests))
+
+-- one step of a removal: the first session is the one that goes, or it stays
+remove_step : (x : ℕ) (xs : List ℕ) (s q : ℕ) (ys : List ℕ) (a b : Bool) → is_at (nat_cmp s) x ≡ a → is_at (nat_cmp s) q ≡ b
+    → has_session xs x ≡ false → has_session ys q ≡ cond b false (has_session xs q)
+    → has_session (cond a xs (x ∷ ys)) q ≡ cond b false (is_at (nat_cmp q) x || has_session xs q)
+remove_step x xs s q ys true true e f once rest = ap (has_session xs) ((three_tests s x q).0 e f) ∙ once
+remove_step x xs s q ys true false e f once rest = grind (arith, (three_tests s x q).1 e f)
+remove_step x xs s q ys false true e f once rest = grind (arith, (three_tests s x q).2 e f)
+remove_step x xs s q ys false false e f once rest = grind arith
+
+-- of sessions that stand once each, without one of them
+pub has_session-remove_key : (xs : List ℕ) (s q : ℕ) → EachOnce xs
+    → has_session (without_session xs s) q ≡ cond (is_at (nat_cmp s) q) false (has_session xs q)
+has_session-remove_key [] s q once = grind arith
+has_session-remove_key (x ∷ xs) s q once =
+    remove_step x xs s q (without_session xs s) (is_at (nat_cmp s) x) (is_at (nat_cmp s) q) refl refl once.0
+    (has_session-remove_key xs s q once.1)
+
+pub EachOnce-remove_key : (xs : List ℕ) (s : ℕ) → EachOnce xs → EachOnce (without_session xs s)
+EachOnce-remove_key [] s once = tt
+EachOnce-remove_key (x ∷ xs) s once = step (is_at (nat_cmp s) x) kept (EachOnce-remove_key xs s once.1)
+  where
+    kept : has_session (without_session xs s) x ≡ false
+    kept = has_session-remove_key xs s x once.1 ∙ ap (cond (is_at (nat_cmp s) x) false) once.0 ∙ (grind arith)
+
+    step : (b : Bool) → has_session (without_session xs s) x ≡ false → EachOnce (without_session xs s)
+        → EachOnce (cond b xs (x ∷ without_session xs s))
+    step true k rest = once.1
+    step false k rest = (k, rest)
+
+-- the removal at the first place that passes
+pub remove-at_first : (p : ℕ → Bool) (xs : List ℕ) → position_or_len p xs < length xs → remove xs (position_or_len p xs) ≡ remove_key p xs
+remove-at_first p [] below = refl
+remove-at_first p (x ∷ xs) below = step (p x) below (remove-at_first p xs)
+  where
+    one_more : (n : ℕ) → 1 + n ≡ suc n
+    one_more n = omega arith
+
+    step : (b : Bool) → cond (not b) (1 + position_or_len p xs) 0 < length (x ∷ xs)
+        → (position_or_len p xs < length xs → remove xs (position_or_len p xs) ≡ remove_key p xs)
+        → remove (x ∷ xs) (cond (not b) (1 + position_or_len p xs) 0) ≡ cond b xs (x ∷ remove_key p xs)
+    step true h rest = refl
+    step false h rest = let below : position_or_len p xs < length xs = omega arith in
+        rw (one_more (position_or_len p xs)) (ap (λ ys. x ∷ ys) (rest below))
+
+-- where no place passes, no session does
+pub none-at_last : (p : ℕ → Bool) (xs : List ℕ) → length xs ≤ position_or_len p xs → list_any p xs ≡ false
+none-at_last p [] at = refl
+none-at_last p (x ∷ xs) at = step (p x) at (none-at_last p xs)
+  where
+    step : (b : Bool) → length (x ∷ xs) ≤ cond (not b) (1 + position_or_len p xs) 0
+        → (length xs ≤ position_or_len p xs → list_any p xs ≡ false) → (b || list_any p xs) ≡ false
+    step true h rest = absurd (omega arith)
+    step false h rest = rest (omega arith)
+
+-- the removal at the place that `position` gives
+pub position-removes : (p : ℕ → Bool) (xs : List ℕ) (i : ℕ) → position p xs ≡ Some i → remove xs i ≡ remove_key p xs
+position-removes p xs i is = step (nat_lt (position_or_len p xs) (length xs)) refl is
+  where
+    step : (b : Bool) → nat_lt (position_or_len p xs) (length xs) ≡ b → cond b (Some (position_or_len p xs)) None ≡ Some i
+        → remove xs i ≡ remove_key p xs
+    step true e at = let same : position_or_len p xs ≡ i = cc in
+        subst (λ (k : ℕ). remove xs k ≡ remove_key p xs) same (remove-at_first p xs (ltb-true _ _ e))
+    step false e at = absurd (cc)
+
+-- where `position` gives none, none passes
+pub position-none : (p : ℕ → Bool) (xs : List ℕ) → position p xs ≡ None → list_any p xs ≡ false
+position-none p xs is = step (nat_lt (position_or_len p xs) (length xs)) refl is
+  where
+    step : (b : Bool) → nat_lt (position_or_len p xs) (length xs) ≡ b → cond b (Some (position_or_len p xs)) None ≡ None
+        → list_any p xs ≡ false
+    step true e at = absurd (cc)
+    step false e at = none-at_last p xs (ltb-false _ _ e)
+
+-- no session stands where `position` gives none
+pub absent_by_place : (xs : List ℕ) (s : ℕ) (r : Option ℕ) → r ≡ position (is_at (nat_cmp s)) xs → r ≡ None → has_session xs s ≡ false
+absent_by_place xs s r at none = position-none (is_at (nat_cmp s)) xs (sym at ∙ none)
+
+pub kept_by_place : (xs : List ℕ) (s : ℕ) (r : Option ℕ) → r ≡ position (is_at (nat_cmp s)) xs → r ≡ None → xs ≡ without_session xs s
+kept_by_place xs s r at none = sym (remove_key-absent (is_at (nat_cmp s)) xs (absent_by_place xs s r at none))
+
+-- a removal at the place that `position` gives takes the session away
+pub gone_by_place : (xs ys : List ℕ) (s i : ℕ) (r gone : Option ℕ) → r ≡ position (is_at (nat_cmp s)) xs → r ≡ Some i
+    → (IsSome gone ↔ (i < length xs)) → OnSome gone (ys ≡ remove xs i) → ys ≡ without_session xs s
+gone_by_place xs ys s i r None at is variant after =
+    absurd (none_gone (variant.1 (position-Some (is_at (nat_cmp s)) xs i 0 (sym at ∙ is)).0))
+  where
+    none_gone : IsSome {T = ℕ} None → ⊥
+    none_gone h = grind arith
+gone_by_place xs ys s i r (Some x) at is variant after = after ∙ position-removes (is_at (nat_cmp s)) xs i (sym at ∙ is)
+
+-- a queue with one more session, and the index with it
+pub IsIndexed-push : (index queue after : List ℕ) (s : ℕ) → IsIndexed index queue → has_session queue s ≡ false
+    → ((q : ℕ) → has_session after q ≡ cond (is_at (nat_cmp s) q) true (has_session index q)) → IsIndexed after (queue ++ s ∷ [])
+IsIndexed-push index queue after s i absent adds = record {
+  same = λ q. grind (arith, adds q, i.same q, has_session-push queue s q, is_at-sym s q);
+  each_once = EachOnce-push queue s i.each_once absent;
+}
+
+-- a queue without one of its sessions, and the index without it
+pub IsIndexed-remove : (index queue after : List ℕ) (s : ℕ) → IsIndexed index queue
+    → ((q : ℕ) → has_session after q ≡ cond (is_at (nat_cmp s) q) false (has_session index q)) → IsIndexed after (without_session queue s)
+IsIndexed-remove index queue after s i removes = record {
+  same = λ q. grind (arith, removes q, i.same q, has_session-remove_key queue s q i.each_once);
+  each_once = EachOnce-remove_key queue s i.each_once;
+}
