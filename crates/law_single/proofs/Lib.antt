@@ -1,3 +1,4 @@
 pub mod Lists
 pub mod Quiet
 pub mod Replies
+pub mod Acts
