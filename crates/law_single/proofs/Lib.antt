@@ -2,3 +2,4 @@ pub mod Lists
 pub mod Quiet
 pub mod Replies
 pub mod Acts
+pub mod Items
