@@ -69,11 +69,11 @@ numbers_more : (i : ℕ) (above : List Item) → AllByRecursion (IsBelowNumber 2
 numbers_more i [] h = tt
 numbers_more i (x ∷ above) h = (is_below_more i (outcome_of 2 x) h.0, numbers_more i above h.1)
 
-commands_more : (i : ℕ) (above : List Item) (c : Call) → count_by (λ d. is_command d.1) (calls 2 above) + 1 ≡ i
+pub commands_more : (i : ℕ) (above : List Item) (c : Call) → count_by (λ d. is_command d.1) (calls 2 above) + 1 ≡ i
     → count_by (λ d. is_command d.1) (calls 2 (called i c ∷ above)) ≡ i
 commands_more i above c h = rw count_by-cons (omega arith)
 
-upto_more : (i n : ℕ) (above : List Item) (c : Call) → nat_le i n ≡ true → commands_upto 2 n above + 1 ≡ i → commands_upto 2 n (called i c ∷ above) ≡ i
+pub upto_more : (i n : ℕ) (above : List Item) (c : Call) → nat_le i n ≡ true → commands_upto 2 n above + 1 ≡ i → commands_upto 2 n (called i c ∷ above) ≡ i
 upto_more i n above c e h = rw (count_by-cons, e) (omega arith)
 
 above_more : (i : ℕ) (above : List Item) (c : Call) (r : Reply) → IsAbove i above → IsAbove (i + 1) (replied i r ∷ commit i ∷ called i c ∷ above)

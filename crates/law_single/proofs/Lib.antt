@@ -3,3 +3,4 @@ pub mod Quiet
 pub mod Replies
 pub mod Acts
 pub mod Items
+pub mod Faithful
