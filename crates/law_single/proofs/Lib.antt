@@ -1,3 +1,6 @@
 pub mod Lists
 pub mod Quiet
 pub mod Replies
+pub mod Acts
+pub mod Items
+pub mod Faithful

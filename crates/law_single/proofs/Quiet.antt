@@ -268,7 +268,7 @@ resource_pass_quiet : (time : ℕ) (r : Resource) → IsQuietResource r → IsQu
 resource_pass_quiet time (AMap s) h = h
 resource_pass_quiet time r h = h
 
-pass_quiet : (time : ℕ) (book : Book) → IsQuietBook book → IsQuietBook (pass time book)
+pub pass_quiet : (time : ℕ) (book : Book) → IsQuietBook book → IsQuietBook (pass time book)
 pass_quiet time [] h = tt
 pass_quiet time (e ∷ book) h = (resource_pass_quiet time e.1 h.0, pass_quiet time book h.1)
 
@@ -276,7 +276,7 @@ resource_passed_nil : (name : List ℕ) (time : ℕ) (r : Resource) → IsQuietR
 resource_passed_nil name time (AMap s) h = removed-nobody name s.listeners _ h
 resource_passed_nil name time r h = refl
 
-passed_nil : (time : ℕ) (book : Book) → IsQuietBook book → passed time book ≡ []
+pub passed_nil : (time : ℕ) (book : Book) → IsQuietBook book → passed time book ≡ []
 passed_nil time [] h = refl
 passed_nil time (e ∷ book) h = ap₂ ◌++◌ (resource_passed_nil e.0 time e.1 h.0) (passed_nil time book h.1)
 
