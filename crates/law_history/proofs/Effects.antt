@@ -1,9 +1,8 @@
 -- What one act does to the queue of a name: it offers a text, takes one, finds none, or nothing.
-use Rattle.std.proofs.Common.{◌≡◌, ℕ, ◌+◌, Bool, true, false, cond, List, [], ◌∷◌, ◌++◌, Option, Some, None, refl, sym, ap, ◌∙◌, subst, map}
+use Rattle.std.proofs.Common.{◌≡◌, ℕ, Bool, true, false, cond, List, [], ◌∷◌, ◌++◌, Option, Some, None, refl, sym, ap, ◌∙◌, subst, map}
 use Rattle.std.specs.BTreeMap.{is_at}
 use Rattle.ax_types.specs.declared.ops.Op.{Op}
 use Rattle.ax_types.specs.declared.ops.Op.TheVariants as op
-use Rattle.ax_types.specs.declared.ops.QueueOp.{QueueOp}
 use Rattle.ax_types.specs.declared.ops.QueueOp.TheVariants as queue
 use Rattle.ax_types.specs.declared.entries.Act.{Act}
 use Rattle.ax_types.specs.declared.entries.Act.TheVariants as act
@@ -44,7 +43,7 @@ HasEffect name p a r before after =
 -- at one resource
 offer_effect : (name n : List ℕ) (p s : ℕ) (v : List ℕ) (q : List (List ℕ)) (b : Bool) → is_at (bytes_cmp name) n ≡ true
     → HasEffect name p (act.Do s n (op.Queue (queue.Offer v))) (cond b (replied q reply.Full) (replied (q ++ v ∷ []) reply.Yes)).turn.reply q
-      (cond b (replied q reply.Full) (replied (q ++ v ∷ []) reply.Yes)).state
+    (cond b (replied q reply.Full) (replied (q ++ v ∷ []) reply.Yes)).state
 offer_effect name n p s v q true e = Leaves refl refl refl refl
 offer_effect name n p s v q false e = Offers v (ap (λ b. cond b ((p, v) ∷ []) []) e) refl refl refl
 
@@ -92,7 +91,7 @@ changed_effect name n p s o book before a e h =
 
 made_effect : (name n : List ℕ) (p time s : ℕ) (o : Op) (book : Book) (b : Bool) → is_at (bytes_cmp name) n ≡ true → found book name ≡ None
     → HasEffect name p (act.Do s n o) (cond b (replied book reply.Full) (at_name book n (resource_act n p time s o (new_resource (op_kind o))))).turn.reply
-      [] (queue_of (cond b (replied book reply.Full) (at_name book n (resource_act n p time s o (new_resource (op_kind o))))).state name)
+    [] (queue_of (cond b (replied book reply.Full) (at_name book n (resource_act n p time s o (new_resource (op_kind o))))).state name)
 made_effect name n p time s o book true e f = subst (HasEffect name p (act.Do s n o) reply.Full []) (sym (ap texts_at f)) (full_effect name n p s o [])
 made_effect name n p time s o book false e f =
     let a : Acted Resource = resource_act n p time s o (new_resource (op_kind o)) in
@@ -112,12 +111,12 @@ record IsApart (name : List ℕ) (x : Replied) : Type 0 where
   not_empty : polled_empty name x ≡ []
 
 apart : (name n : List ℕ) (p s : ℕ) (o : Op) (r : Reply) → is_at (bytes_cmp name) n ≡ false → IsApart name (record { place = p; act = act.Do s n o; reply = r })
-apart name n p s (op.Queue (queue.Offer v)) reply.Yes e = record { no_offer = ap (λ b. cond b ((p, v) ∷ []) []) e; no_take = refl; not_empty = refl; }
-apart name n p s (op.Queue (queue.Offer v)) r e = record { no_offer = refl; no_take = refl; not_empty = refl; }
-apart name n p s (op.Queue queue.Poll) (reply.Found v) e = record { no_offer = refl; no_take = ap (λ b. cond b ((p, v) ∷ []) []) e; not_empty = refl; }
-apart name n p s (op.Queue queue.Poll) reply.Nothing e = record { no_offer = refl; no_take = refl; not_empty = ap (λ b. cond b (p ∷ []) []) e; }
-apart name n p s (op.Queue queue.Poll) r e = record { no_offer = refl; no_take = refl; not_empty = refl; }
-apart name n p s o r e = record { no_offer = refl; no_take = refl; not_empty = refl; }
+apart name n p s (op.Queue (queue.Offer v)) reply.Yes e = record { no_offer = ap (λ b. cond b ((p, v) ∷ []) []) e; no_take = refl; not_empty = refl }
+apart name n p s (op.Queue (queue.Offer v)) r e = record { no_offer = refl; no_take = refl; not_empty = refl }
+apart name n p s (op.Queue queue.Poll) (reply.Found v) e = record { no_offer = refl; no_take = ap (λ b. cond b ((p, v) ∷ []) []) e; not_empty = refl }
+apart name n p s (op.Queue queue.Poll) reply.Nothing e = record { no_offer = refl; no_take = refl; not_empty = ap (λ b. cond b (p ∷ []) []) e }
+apart name n p s (op.Queue queue.Poll) r e = record { no_offer = refl; no_take = refl; not_empty = refl }
+apart name n p s o r e = record { no_offer = refl; no_take = refl; not_empty = refl }
 
 made_other : (name n : List ℕ) (book : Book) (a : Acted Resource) (b : Bool) → is_at (bytes_cmp name) n ≡ false
     → queue_of (cond b (replied book reply.Full) (at_name book n a)).state name ≡ queue_of book name

@@ -1,10 +1,9 @@
 -- The queue of a name, along a history: takes follow offers in order, and a poll that finds none has seen as many of both.
-use Rattle.std.proofs.Common.{◌≡◌, ℕ, zero, suc, ◌+◌, ◌≤◌, ◌<◌, Bool, true, false, cond, nat_lt, List, [], ◌∷◌, ◌++◌, Option, Some, None, refl, sym, ap, ◌∙◌, subst, arith, map, flat_map, count_by, slice_get, append_assoc}
+use Rattle.std.proofs.Common.{◌≡◌, ℕ, zero, suc, ◌+◌, ◌≤◌, ◌<◌, cond, nat_lt, List, [], ◌∷◌, ◌++◌, Some, refl, sym, ap, ◌∙◌, subst, arith, map, flat_map, slice_get, append_assoc}
 use Rattle.std.specs.List.{AllByRecursion}
 use Rattle.std.proofs.lemmas.List.{map-append}
 use Rattle.std.proofs.lemmas.Bool.{lt-ltb, le-ltb}
 use Rattle.std.proofs.lemmas.List.Sums.{sum_by-cons}
-use Rattle.ax_types.specs.Places.{at_place}
 use Rattle.spec_book.specs.Book.{Book, acted}
 use Rattle.spec_book.specs.History.{History}
 use Rattle.spec_claims.specs.Handed.{replied_after, offered, polled, polled_empty, before}
@@ -66,7 +65,7 @@ waiting_first p (x ∷ q) before after v w e =
       is = refl;
       text = cc (h, e);
       place = w.below.0;
-      left = record { same = t; below = all_since (λ y. y.0 < p) (λ y. y.0 < p + 1) (λ y k. omega arith) q w.below.1; };
+      left = record { same = t; below = all_since (λ y. y.0 < p) (λ y. y.0 < p + 1) (λ y k. omega arith) q w.below.1 };
     }
 
 waiting_none : (p : ℕ) (q : Placed) (before : List (List ℕ)) → IsWaiting p q before → before ≡ [] → q ≡ []
@@ -107,7 +106,7 @@ pub hand_in_order : QueuesHandInOrder
 hand_in_order h name zero p v e = absurd (cc)
 hand_in_order h name (suc k) p v e =
     get_served (flat_map (polled name) (replied_after 0 [] h)) (flat_map (offered name) (replied_after 0 [] h)) k p v
-    (served name 0 [] h [] (record { same = refl; below = tt; })) e
+    (served name 0 [] h [] (record { same = refl; below = tt })) e
 
 -- what stands at places from p on
 abbrev AreFrom : ℕ → Placed → Type 0
@@ -161,28 +160,31 @@ even_more : (p : ℕ) (o t : Placed) (e : List ℕ) (before after : List (List �
 even_more p o t e b after os ts q es (Offers v eo et ee ea) w fo ft next =
     rw (eo, et, ee)
     (all_since (IsEven (p + 1) ts ((q ++ (p, v) ∷ []) ++ os)) (IsEven p ts (q ++ ((p, v) ∷ os)))
-     (λ x h. (omega arith, h.1 ∙ ap (before x) (append_assoc q ((p, v) ∷ []) os))) es
-     (next (q ++ (p, v) ∷ []) (waiting_more p q b after v w ea)))
+    (λ x h. (omega arith, h.1 ∙ ap (before x) (append_assoc q ((p, v) ∷ []) os))) es
+    (next (q ++ (p, v) ∷ []) (waiting_more p q b after v w ea)))
 even_more p o t e b after os ts q es (Takes v eo et ee eb) w fo ft next =
     let f : IsFirst p v q after = waiting_first p q b after v w eb in
     rw (eo, et, ee, f.is)
     (all_since (IsEven (p + 1) ts (f.rest ++ os)) (IsEven p ((p, v) ∷ ts) (f.first ∷ f.rest ++ os))
-     (λ x h.
-      let l : p < x = omega arith in
-      (omega arith, before_one x (p, v) ts l ∙ ap (λ n. 1 + n) h.1 ∙ sym (before_one x f.first (f.rest ++ os) (omega (arith, f.place))))) es
-     (next f.rest f.left))
+    (λ x h.
+    let l : p < x = omega arith in
+    (omega arith, before_one x (p, v) ts l ∙ ap (λ n. 1 + n) h.1 ∙ sym (before_one x f.first (f.rest ++ os) (omega (arith, f.place))))) es
+    (next f.rest f.left))
 even_more p o t e b after os ts q es (FindsNone eo et ee eb ea) w fo ft next =
-    rw (eo, et, ee)
-    ((omega arith,
-      before_none p ts (from_less p ts ft) ∙ sym (before_none p os (from_less p os fo)) ∙ ap (λ r. before p (r ++ os)) (sym (waiting_none p q b w eb))),
-     all_since (IsEven (p + 1) ts (q ++ os)) (IsEven p ts (q ++ os)) (λ x h. (omega arith, h.1)) es (next q (waiting_same p q b after w (ea ∙ sym eb))))
+    rw (eo, et, ee) (
+      (
+        omega arith,
+        before_none p ts (from_less p ts ft) ∙ sym (before_none p os (from_less p os fo)) ∙ ap (λ r. before p (r ++ os)) (sym (waiting_none p q b w eb)),
+      ),
+      all_since (IsEven (p + 1) ts (q ++ os)) (IsEven p ts (q ++ os)) (λ x h. (omega arith, h.1)) es (next q (waiting_same p q b after w (ea ∙ sym eb))),
+    )
 even_more p o t e b after os ts q es (Leaves eo et ee ea) w fo ft next =
     rw (eo, et, ee)
     (all_since (IsEven (p + 1) ts (q ++ os)) (IsEven p ts (q ++ os)) (λ x h. (omega arith, h.1)) es (next q (waiting_same p q b after w ea)))
 
 even : (name : List ℕ) (done : ℕ) (book : Book) (acts : History) (q : Placed) → IsWaiting (done + 1) q (queue_of book name)
     → AllByRecursion (IsEven (done + 1) (flat_map (polled name) (replied_after done book acts)) (q ++ flat_map (offered name) (replied_after done book acts)))
-      (flat_map (polled_empty name) (replied_after done book acts))
+    (flat_map (polled_empty name) (replied_after done book acts))
 even name done book [] q w = tt
 even name done book (a ∷ acts) q w =
     even_more (done + 1) _ _ _ _ _ _ _ q _ (act_effect name book (done + 1) a.0 a.1) w
@@ -199,5 +201,5 @@ pub find_none : PollsFindNone
 find_none h name zero p e = absurd (cc)
 find_none h name (suc k) p e =
     (get_all (IsEven 1 (flat_map (polled name) (replied_after 0 [] h)) (flat_map (offered name) (replied_after 0 [] h)))
-     (flat_map (polled_empty name) (replied_after 0 [] h)) k p
-     (even name 0 [] h [] (record { same = refl; below = tt; })) e).1
+    (flat_map (polled_empty name) (replied_after 0 [] h)) k p
+    (even name 0 [] h [] (record { same = refl; below = tt })) e).1

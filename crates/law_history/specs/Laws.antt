@@ -1,5 +1,5 @@
 -- The laws of every history.
-use Rattle.std.specs.Prelude.{ℕ, ◌≡◌, ◌<◌, List, Option, Some}
+use Rattle.std.specs.Prelude.{ℕ, ◌≡◌, ◌<◌, List, Some}
 use Rattle.ax_types.specs.Places.{at_place}
 use Rattle.spec_book.specs.History.{History}
 use Rattle.spec_claims.specs.Handed.{offers, takes, empty_polls, before}

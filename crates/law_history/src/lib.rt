@@ -7,11 +7,9 @@ ghost use Rattle.law_history.specs.Laws.{QueuesHandInOrder, PollsFindNone};
 /// smaller place.
 pub fn queues_hand_in_order()
     ensures { QueuesHandInOrder }
-{
-}
+{}
 
 /// In each history, where a poll found nothing, as many texts had been taken as offered.
 pub fn polls_find_none()
     ensures { PollsFindNone }
-{
-}
+{}

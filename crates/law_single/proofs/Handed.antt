@@ -1,7 +1,7 @@
 -- A narrow run keeps the promise of its queues.
-use Rattle.std.proofs.Common.{ℕ, ◌+◌, List, arith}
+use Rattle.std.proofs.Common.{◌+◌, List, arith}
 use Rattle.spec_claims.specs.Transcript.{EachItem}
-use Rattle.spec_claims.specs.Handed.{IsHanded, IsOfItsOwn}
+use Rattle.spec_claims.specs.Handed.{IsOfItsOwn}
 use Rattle.spec_single.specs.Form.{Call}
 use Rattle.spec_single.specs.Run.{run_items, run_history}
 use Rattle.law_history.proofs.Queues.{hand_in_order, find_none}

@@ -1,5 +1,5 @@
 -- The items of a narrow run, call by call: what stands above each, and how a claim of each item follows.
-use Rattle.std.proofs.Common.{◌≡◌, ℕ, zero, suc, ◌+◌, ◌≤◌, ◌<◌, Bool, true, false, ◌&&◌, nat_le, nat_lt, cond, max, List, [], ◌∷◌, ◌++◌, Option, Some, None, refl, sym, ap, ◌∙◌, subst, arith, map, length, count_by}
+use Rattle.std.proofs.Common.{◌≡◌, ℕ, ◌+◌, ◌≤◌, ◌<◌, true, false, nat_le, nat_lt, List, [], ◌∷◌, ◌++◌, Option, Some, None, refl, ap, arith, length, count_by}
 use Rattle.std.specs.List.{AllByRecursion}
 use Rattle.std.proofs.lemmas.List.{length-append, length-map}
 use Rattle.std.proofs.lemmas.Bool.{le-leb, le-ltb, lt-ltb}
@@ -9,7 +9,7 @@ use Rattle.ax_types.specs.declared.replies.Reply.{Reply}
 use Rattle.ax_types.specs.declared.items.Item.{Item}
 use Rattle.ax_types.specs.declared.items.Item.TheVariants as item
 use Rattle.spec_book.specs.Book.{Book}
-use Rattle.spec_book.specs.History.{History, reply_at}
+use Rattle.spec_book.specs.History.{reply_at}
 use Rattle.spec_claims.specs.Transcript.{transcript, EachBelow, EachItem, calls, is_command, commands_upto, outcome_of, greatest_commit}
 use Rattle.spec_claims.specs.Right.{is_opened}
 use Rattle.spec_claims.specs.Outcomes.{is_unsent, is_unanswered, is_ended, IsBelowNumber}
@@ -125,11 +125,18 @@ each_call : (all : List Call) (P : List Item → Item → Type 0) → OfEachCall
 each_call all P p i book [] above o f h = tt
 each_call all P p i book (c ∷ cs) above o f h =
     let r : Reply = (call_acted i book c).turn.reply in
-    let of : IsOfCall all i r = record { first = o; last = long_enough all i book c cs f; reply = reply_of_call (run_history all) i book c cs f; } in
-    let three : OfThree P above i c r = p i above c r h of in
-    (three.0, (three.1, (three.2,
-     each_call all P p (i + 1) (call_acted i book c).state cs (replied i r ∷ commit i ∷ called i c ∷ above) (omega arith)
-     (follows_more (run_history all) i book c cs f) (above_more i above c r h))))
+    let of : IsOfCall all i r = record { first = o; last = long_enough all i book c cs f; reply = reply_of_call (run_history all) i book c cs f } in
+    let three : OfThree P above i c r = p i above c r h of in (
+      three.0,
+      (
+        three.1,
+        (
+          three.2,
+          each_call all P p (i + 1) (call_acted i book c).state cs (replied i r ∷ commit i ∷ called i c ∷ above) (omega arith)
+              (follows_more (run_history all) i book c cs f) (above_more i above c r h),
+        ),
+      ),
+    )
 
 -- a claim of the items that open the run
 abbrev pub OfOpening : (List Item → Item → Type 0) → Type 0

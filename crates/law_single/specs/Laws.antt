@@ -27,7 +27,7 @@ abbrev pub calls_replied : History → ℕ → List Call → List Shown
 calls_replied h i [] = []
 calls_replied h i (c ∷ cs) = call_replied i c (reply_at h (i + 2)) ++ calls_replied h (i + 1) cs
 
--- each call of a narrow run is replied to as its history has it at place 3 and on
+-- each call of a narrow run is replied to as its history has it: the i-th call at place i + 2
 abbrev pub NarrowCallsAreReplied : Type 0
 NarrowCallsAreReplied = (cs : List Call) → run_shown cs ≡ start_shown ++ calls_replied (run_history cs) 1 cs
 
