@@ -1,4 +1,5 @@
 ghost use Rattle.std.specs.Prelude.{◌≡◌, ℕ, ◌<◌, ◌≤◌, ◌^◌, List as Items, [], length, IfOk, OnOk, OnErr, IsTrue, ◌↔◌};
+ghost use Rattle.std.specs.Bool.{OnFalse};
 ghost use Rattle.std.specs.Ordering.{nat_cmp};
 ghost use Rattle.std.specs.List.Sorted.{IsStrictlySortedBy};
 ghost use Rattle.spec_book.specs.Dict.{has_session, without_session};
@@ -83,6 +84,7 @@ impl Listeners {
     pub fn unlisten(&mut self, session: u64) -> bool
         ensures listened { result ≡ has_session self.old session }
         ensures after { self.new ≡ without_session self.old session }
+        ensures unchanged { OnFalse result (self.new ≡ self.old) }
     {
         self.sessions.remove(&session)
     }

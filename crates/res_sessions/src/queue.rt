@@ -1,4 +1,5 @@
-ghost use Rattle.std.specs.Prelude.{◌≡◌, ℕ, ◌<◌, ◌^◌, false, List as Items, [], ◌∷◌, ◌++◌, length, option_to_list, position, slice_get, IfOk, OnOk, OnErr, IfSome, IsTrue, ◌↔◌};
+ghost use Rattle.std.specs.Prelude.{◌≡◌, ℕ, ◌<◌, ◌^◌, false, List as Items, [], ◌∷◌, ◌++◌, length, position, MatchOption, slice_get, IfOk, OnOk, OnErr, IfSome, IsTrue, ◌↔◌};
+ghost use Rattle.std.specs.Bool.{OnFalse};
 ghost use Rattle.std.specs.Ordering.{nat_cmp};
 ghost use Rattle.std.specs.BTreeMap.{is_at};
 ghost use Rattle.spec_book.specs.Dict.{has_session, without_session};
@@ -89,7 +90,7 @@ impl SessionQueue {
 
     /// Takes the session that came first.
     pub fn pop_first(&mut self) -> Option<u64>
-        ensures first { self.old ≡ option_to_list result ++ self.new }
+        ensures first { MatchOption result ((self.old ≡ []) × (self.new ≡ [])) (λ s. self.old ≡ s ∷ self.new) }
         ensures gone { IfSome result (λ s. has_session self.new s ≡ false) }
     {
         let first = self.sessions.pop_front()?;
@@ -101,6 +102,7 @@ impl SessionQueue {
     pub fn remove(&mut self, session: u64) -> bool
         ensures found { result ≡ has_session self.old session }
         ensures after { self.new ≡ without_session self.old session }
+        ensures unchanged { OnFalse result (self.new ≡ self.old) }
     {
         match self.place_of(session) {
             None => false,
