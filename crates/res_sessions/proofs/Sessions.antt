@@ -1,5 +1,5 @@
 -- Lists of sessions, each once: what an append and a removal leave of them.
-use Rattle.std.proofs.Common.{◌≡◌, ℕ, suc, ◌+◌, ◌<◌, ◌≤◌, not, Bool, true, false, cond, ◌||◌, nat_lt, List, [], ◌∷◌, ◌++◌, length, Option, Some, None, position, refl, sym, ap, ◌∙◌, subst, arith}
+use Rattle.std.proofs.Common.{◌≡◌, ℕ, suc, ◌+◌, ◌<◌, ◌≤◌, not, Bool, true, false, cond, ◌||◌, nat_lt, List, [], ◌∷◌, ◌++◌, length, Option, Some, None, slice_get, position, refl, sym, ap, ◌∙◌, subst, arith}
 use Rattle.std.proofs.lemmas.Bool.{false≢true, ltb-true, ltb-false}
 use Rattle.std.proofs.lemmas.Bool.Decides.{nat_tests}
 use Rattle.std.specs.List.{list_any, position_or_len, remove}
@@ -73,6 +73,26 @@ absent_after_removal (x ∷ xs) s q absent =
     step b true e there f h rest = absurd (false≢true (sym h))
     step true false e there f h rest = f ∙ h
     step false false e there f h rest = rw e (rest (f ∙ h))
+
+-- the first session after a removal: the first before it, or the second where the first is the one that goes
+pub first_of_none : (xs : List ℕ) (s : ℕ) (r : Option ℕ) → r ≡ slice_get xs 0 → r ≡ None → None ≡ slice_get (without_session xs s) 0
+first_of_none [] s r at is = refl
+first_of_none (x ∷ xs) s r at is = absurd (cc)
+
+pub first_of_others : (xs : List ℕ) (s x : ℕ) (r : Option ℕ) → r ≡ slice_get xs 0 → r ≡ Some x → is_at (nat_cmp s) x ≡ false
+    → Some x ≡ slice_get (without_session xs s) 0
+first_of_others [] s x r at is other = absurd (cc)
+first_of_others (y ∷ xs) s x r at is other =
+    let same : x ≡ y = cc in
+    let e : is_at (nat_cmp s) y ≡ false = rw (← same) other in
+    rw e (ap (λ (n : ℕ). Some n) same)
+
+pub first_of_rest : (xs : List ℕ) (s x : ℕ) (r second : Option ℕ) → r ≡ slice_get xs 0 → r ≡ Some x → is_at (nat_cmp s) x ≡ true
+    → second ≡ slice_get xs 1 → second ≡ slice_get (without_session xs s) 0
+first_of_rest [] s x r second at is same next = absurd (cc)
+first_of_rest (y ∷ xs) s x r second at is same next =
+    let e : is_at (nat_cmp s) y ≡ true = ap (is_at (nat_cmp s)) (cc) ∙ same in
+    rw e next
 
 -- of sessions that stand once each, without one of them
 pub has_session-remove_key : (xs : List ℕ) (s q : ℕ) → EachOnce xs

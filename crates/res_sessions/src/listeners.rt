@@ -1,4 +1,4 @@
-ghost use Rattle.std.specs.Prelude.{◌≡◌, ℕ, ◌<◌, ◌≤◌, ◌^◌, List as Items, [], length, IfOk, OnOk, OnErr, IsTrue, ◌↔◌};
+ghost use Rattle.std.specs.Prelude.{◌≡◌, ℕ, ◌<◌, ◌≤◌, ◌^◌, List as Items, [], ◌++◌, length, IfOk, OnOk, OnErr, IsTrue, ◌↔◌};
 ghost use Rattle.std.specs.Bool.{OnFalse};
 ghost use Rattle.std.specs.Ordering.{nat_cmp};
 ghost use Rattle.std.specs.List.Sorted.{IsStrictlySortedBy};
@@ -94,10 +94,19 @@ impl Listeners {
         ensures { IfOk result (λ told. told ≡ tell self.now event.now) }
     {
         let mut told = List::with_capacity(self.alloc, self.sessions.len())?;
+        self.tell_too(event, &mut told)?;
+        Ok(told)
+    }
+
+    /// The event for each listener, in ascending order of session, after what is told already. After want of memory that
+    /// list is spent.
+    pub fn tell_too(&self, event: &Event, told: &mut List<(u64, Event)>) -> Result<(), NoMemory>
+        ensures { OnOk result (told.new ≡ told.old ++ tell self.now event.now) }
+    {
         for session in self.sessions.iter() {
             told.push((*session, event.copy()?))?;
         }
-        Ok(told)
+        Ok(())
     }
 }
 

@@ -68,7 +68,30 @@ impl SessionQueue {
     pub fn first(&self) -> Option<u64>
         ensures { result ≡ slice_get self.now 0 }
     {
-        self.sessions.front().copied()
+        self.at(0)
+    }
+
+    /// The session that came first among the others than this one.
+    pub fn first_without(&self, session: u64) -> Option<u64>
+        ensures { result ≡ slice_get (without_session self.now session) 0 }
+    {
+        match self.at(0) {
+            None => None,
+            Some(first) => {
+                if session.cmp(&first).is_eq() {
+                    self.at(1)
+                } else {
+                    Some(first)
+                }
+            }
+        }
+    }
+
+    /// The session before which `before` others came.
+    fn at(&self, before: usize) -> Option<u64>
+        ensures { result ≡ slice_get self.now before }
+    {
+        self.sessions.get(before).copied()
     }
 
     /// The session comes last, where it is none of them. The sessions are unchanged after want of memory.
