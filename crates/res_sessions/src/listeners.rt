@@ -1,4 +1,4 @@
-ghost use Rattle.std.specs.Prelude.{◌≡◌, ℕ, ◌<◌, ◌≤◌, ◌^◌, List as Items, [], length, IfOk, OnOk, OnErr, IsTrue, ◌↔◌};
+ghost use Rattle.std.specs.Prelude.{◌≡◌, ℕ, ◌<◌, ◌≤◌, ◌^◌, List as Items, [], ◌++◌, length, IfOk, OnOk, OnErr, IsTrue, ◌↔◌};
 ghost use Rattle.std.specs.Bool.{OnFalse};
 ghost use Rattle.std.specs.Ordering.{nat_cmp};
 ghost use Rattle.std.specs.List.Sorted.{IsStrictlySortedBy};
@@ -98,6 +98,21 @@ impl Listeners {
             told.push((*session, event.copy()?))?;
         }
         Ok(told)
+    }
+
+    /// Appends the event for each listener, in ascending order of session, to what is told already. After want of
+    /// memory the list may have some of them.
+    pub fn tell_too(
+        &self,
+        told: &mut List<(u64, Event)>,
+        event: &Event,
+    ) -> Result<(), NoMemory>
+        ensures { OnOk result (told.new ≡ told.old ++ tell self.now event.now) }
+    {
+        for session in self.sessions.iter() {
+            told.push((*session, event.copy()?))?;
+        }
+        Ok(())
     }
 }
 
