@@ -1,23 +1,14 @@
 -- When the lives of a map's entries end, and the index that has the entries in the order of these times.
-<<<<<<< HEAD
-use Rattle.std.specs.Prelude.{◌≡◌, ℕ, ◌+◌, min, Bool, false, cond, nat_le, nat_eq, ◌&&◌, if◌then◌else◌, List, [], ◌∷◌, Option, Some, None, fold}
-=======
 use Rattle.std.specs.Prelude.{◌≡◌, ℕ, ◌+◌, min, Bool, false, cond, nat_le, nat_eq, ◌&&◌, if◌then◌else◌, List, [], ◌∷◌, Option, Some, None, fold, filter}
->>>>>>> 71220f8a8e7fa62c026a703416ea51a8ca814b86
 use Rattle.std.specs.declared.cmp.Ordering.{Ordering}
 use Rattle.std.specs.Ordering.{nat_cmp, then_cmp, on}
 use Rattle.std.specs.Option.{option_eq}
 use Rattle.std.specs.List.{list_any}
 use Rattle.std.specs.BTreeMap.{is_at}
-<<<<<<< HEAD
-use Rattle.spec_book.specs.Dict.{bytes_cmp, found, without_entry}
-use Rattle.spec_book.specs.Resources.{Span, MapItem}
-=======
 use Rattle.std.specs.Map.{keys_of}
 use Rattle.spec_book.specs.Dict.{bytes_cmp, found, without_entry}
 use Rattle.spec_book.specs.Resources.{Span, MapItem}
 use Rattle.spec_book.specs.MapTurn.{life_ended}
->>>>>>> 71220f8a8e7fa62c026a703416ea51a8ca814b86
 
 -- the log time at which a life ends, where there is one
 abbrev pub end_of : Option Span → Option ℕ
@@ -70,13 +61,10 @@ abbrev pub first_time : List (ℕ × List ℕ) → Option ℕ
 first_time [] = None
 first_time (d ∷ deadlines) = Some d.0
 
-<<<<<<< HEAD
-=======
 -- the keys of the entries whose life ends at or before a time
 abbrev pub ended_keys : ℕ → List (List ℕ × MapItem) → List (List ℕ)
 ended_keys time entries = keys_of (filter (λ e. life_ended time e.1.life) entries)
 
->>>>>>> 71220f8a8e7fa62c026a703416ea51a8ca814b86
 -- the entries without the keys
 abbrev pub without_keys : List (List ℕ × MapItem) → List (List ℕ) → List (List ℕ × MapItem)
 without_keys entries keys = fold without_entry entries keys

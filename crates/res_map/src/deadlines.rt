@@ -1,11 +1,6 @@
-<<<<<<< HEAD
-ghost use Rattle.std.specs.Prelude.{◌≡◌, ℕ, List as Items, [], true, false, IfOk, OnOk, OnErr};
-ghost use Rattle.std.specs.List.{list_any};
-=======
 ghost use Rattle.std.specs.Prelude.{◌≡◌, ℕ, List as Items, [], true, false, ◌≤◌, IfOk, IfSome, OnOk, OnErr};
 ghost use Rattle.std.specs.List.{list_any, All};
 ghost use Rattle.std.specs.List.Sorted.{IsStrictlySortedBy};
->>>>>>> 71220f8a8e7fa62c026a703416ea51a8ca814b86
 ghost use Rattle.std.specs.BTreeMap.{is_at};
 ghost use Rattle.spec_book.specs.Dict.{bytes_cmp};
 ghost use Rattle.res_map.specs.Deadlines.{SetsDeadline, has_passed, first_time};
@@ -71,12 +66,8 @@ impl Deadlines {
 
     /// The earliest time.
     pub fn first(&self) -> Option<u128>
-<<<<<<< HEAD
-        ensures { result ≡ first_time self.now }
-=======
         ensures time { result ≡ first_time self.now }
         ensures least { IfSome result (λ time. All (λ d. time ≤ d.0) self.now) }
->>>>>>> 71220f8a8e7fa62c026a703416ea51a8ca814b86
     {
         match self.pairs.first() {
             Some((end, _)) => Some(*end),
@@ -86,12 +77,8 @@ impl Deadlines {
 
     /// The keys whose times are at most this one.
     pub fn passed(&self, time: u64) -> Result<BTreeSet<Key>, NoMemory>
-<<<<<<< HEAD
-        ensures { IfOk result (λ keys. (key : Items ℕ) → list_any (is_at (bytes_cmp key)) keys.keys ≡ has_passed time self.now key) }
-=======
         ensures keys { IfOk result (λ keys. (key : Items ℕ) → list_any (is_at (bytes_cmp key)) keys.keys ≡ has_passed time self.now key) }
         ensures ascending { IfOk result (λ keys. IsStrictlySortedBy bytes_cmp keys.keys) }
->>>>>>> 71220f8a8e7fa62c026a703416ea51a8ca814b86
     {
         let mut keys = BTreeSet::new(self.alloc);
         for (end, key) in &self.pairs {

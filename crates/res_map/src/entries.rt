@@ -5,20 +5,13 @@ ghost use Rattle.std.specs.List.Sorted.{IsStrictlySortedBy};
 ghost use Rattle.std.specs.Map.{keys_of};
 ghost use Rattle.spec_book.specs.Dict.{bytes_cmp, found, with_entry, without_entry};
 ghost use Rattle.spec_book.specs.MapTurn.{life_ended};
-<<<<<<< HEAD
-ghost use Rattle.res_map.specs.Deadlines.{item_end, first_end, replaced_end};
-=======
 ghost use Rattle.res_map.specs.Deadlines.{item_end, first_end, replaced_end, ended_keys, without_keys};
->>>>>>> 71220f8a8e7fa62c026a703416ea51a8ca814b86
 
 use crate::deadlines::Deadlines;
 use crate::items::MapItem;
 use ax_types::{Duplicate, Key, NoMemory};
 use std::alloc::Global;
-<<<<<<< HEAD
-=======
 use std::collections::btree_map::Keys;
->>>>>>> 71220f8a8e7fa62c026a703416ea51a8ca814b86
 use std::collections::{BTreeMap, BTreeSet};
 use std::marker::Model;
 
@@ -32,23 +25,16 @@ pub struct Entries {
 impl Model for Entries {
     ghost use Rattle.std.specs.Prelude.{ℕ, List as Items};
     ghost use Rattle.spec_book.specs.Resources.{MapItem as ItemValue};
-<<<<<<< HEAD
-=======
     ghost use Rattle.std.specs.List.Sorted.{IsStrictlySortedBy};
     ghost use Rattle.std.specs.Map.{keys_of};
     ghost use Rattle.spec_book.specs.Dict.{bytes_cmp};
->>>>>>> 71220f8a8e7fa62c026a703416ea51a8ca814b86
     ghost use Rattle.res_map.specs.Deadlines.{IsIndexed};
 
     ghost Value = { Items (Items ℕ × ItemValue) };
 
     ghost view = { λ a. a.items.entries };
 
-<<<<<<< HEAD
-    ghost invariant = { λ a. IsIndexed a.items.entries a.deadlines };
-=======
     ghost invariant = { λ a. IsStrictlySortedBy bytes_cmp (keys_of a.items.entries) × IsIndexed a.items.entries a.deadlines };
->>>>>>> 71220f8a8e7fa62c026a703416ea51a8ca814b86
 }
 
 impl Entries {
@@ -118,8 +104,6 @@ impl Entries {
         self.deadlines.forget(end, key);
     }
 
-<<<<<<< HEAD
-=======
     /// Takes the entries of the keys out.
     pub fn remove_all(&mut self, keys: BTreeSet<Key>)
         ensures { self.new ≡ without_keys self.old keys.keys }
@@ -129,7 +113,6 @@ impl Entries {
         }
     }
 
->>>>>>> 71220f8a8e7fa62c026a703416ea51a8ca814b86
     /// Takes all entries out.
     pub fn clear(&mut self)
         ensures { self.new ≡ [] }
@@ -137,8 +120,6 @@ impl Entries {
         self.items.clear();
         self.deadlines.clear();
     }
-<<<<<<< HEAD
-=======
 
     /// The keys of the entries whose life ends at or before a log time.
     pub fn ended(&self, time: u64) -> Result<BTreeSet<Key>, NoMemory>
@@ -170,7 +151,6 @@ impl Duplicate for Entries {
             deadlines: self.deadlines.copy()?,
         })
     }
->>>>>>> 71220f8a8e7fa62c026a703416ea51a8ca814b86
 }
 
 /// The end that was before, where it is not the end that came after.
