@@ -40,7 +40,7 @@ not-true : (b : Bool) → not b ≡ true → b ≡ false
 not-true true h = cc
 not-true false h = refl
 
-eq-self : (c : ℕ) → nat_eq c c ≡ true
+pub eq-self : (c : ℕ) → nat_eq c c ≡ true
 eq-self c = grind (arith, nat_tests)
 
 -- tests that one implies the other
