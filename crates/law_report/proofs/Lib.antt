@@ -6,3 +6,4 @@ pub mod Replies
 pub mod Parts
 pub mod Items
 pub mod Lines
+pub mod Report
