@@ -7,3 +7,4 @@ pub mod Parts
 pub mod Items
 pub mod Lines
 pub mod Report
+pub mod Json
