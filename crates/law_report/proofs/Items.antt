@@ -1,5 +1,5 @@
 -- An item is read back from the words of its line.
-use Rattle.std.proofs.Common.{◌≡◌, ℕ, cond, List, [], ◌∷◌, drop, length, codes, refl, arith}
+use Rattle.std.proofs.Common.{◌≡◌, ℕ, cond, List, [], ◌∷◌, drop, length, codes, refl}
 use Rattle.std.specs.Fmt.{decimal}
 use Rattle.ax_types.specs.Ends.{end_text as link_end_text}
 use Rattle.ax_types.specs.declared.items.Item.{Item}

@@ -1,10 +1,9 @@
 -- A report is read back from its JSON text.
-use Rattle.std.proofs.Common.{◌≡◌, ℕ, zero, suc, max, ◌≤◌, ◌^◌, Option, Some, List, [], ◌∷◌, ◌++◌, map, codes, refl, sym, ap, ◌∙◌, subst, arith, lit<, lit≤}
+use Rattle.std.proofs.Common.{◌≡◌, ℕ, zero, suc, max, ◌≤◌, Option, Some, List, [], ◌∷◌, ◌++◌, map, refl, sym, ap, ◌∙◌, lit<, lit≤}
 use Rattle.std.proofs.lemmas.List.{append_cancel_right}
 use Rattle.json.specs.Json.{Json, document, max_depth}
 use Rattle.json.specs.Json as json
-use Rattle.json.specs.Tree.{json_tokens, depth, items_depth, HasNumbers, ItemsHaveNumbers}
-use Rattle.json.specs.Print.{print}
+use Rattle.json.specs.Tree.{depth, items_depth, HasNumbers, ItemsHaveNumbers}
 use Rattle.json.proofs.Printed.Trees.{document-print}
 use Rattle.json.proofs.Printed.Decimals.{IsNumber-decimal}
 use Rattle.serde_json.specs.Data.{Data, array}
@@ -14,8 +13,8 @@ use Rattle.ax_types.specs.declared.scripts.Report.{Report}
 use Rattle.spec_report.specs.Items.{item_line, waiting_line}
 use Rattle.spec_report.specs.Report.{act_lines, end_word}
 use Rattle.spec_report.specs.Json.{strings_of, report_object, json_text}
-use Rattle.law_report.specs.Forms.{Each, IsItem, IsEntry, IsRunEnd, IsCallNumber, IsReport}
-use Rattle.law_report.specs.Laws.{Run, IsRun, report_of, JsonTellsRun, JsonTellsReport}
+use Rattle.law_report.specs.Forms.{Each, IsItem, IsEntry, IsRunEnd, IsCallNumber}
+use Rattle.law_report.specs.Laws.{report_of, JsonTellsRun, JsonTellsReport}
 use Rattle.law_report.proofs.Lines.{one_list}
 use Rattle.law_report.proofs.Report.{one_item, one_history, one_end, one_call_number}
 
@@ -45,10 +44,10 @@ value_is_shallow end history items waiting =
 
 -- a text is read as its value
 one_data :
-  (end fend : List ℕ) (history kistory items jtems waiting xaiting : List (List ℕ))
-  → compact_text (report_object end (lines_data history) (lines_data items) (lines_data waiting)) ++ (10 ∷ [])
+    (end fend : List ℕ) (history kistory items jtems waiting xaiting : List (List ℕ))
+    → compact_text (report_object end (lines_data history) (lines_data items) (lines_data waiting)) ++ (10 ∷ [])
     ≡ compact_text (report_object fend (lines_data kistory) (lines_data jtems) (lines_data xaiting)) ++ (10 ∷ [])
-  → Some (value_of end history items waiting) ≡ Some (value_of fend kistory jtems xaiting)
+    → Some (value_of end history items waiting) ≡ Some (value_of fend kistory jtems xaiting)
 one_data end fend history kistory items jtems waiting xaiting e =
     let one = report_object end (lines_data history) (lines_data items) (lines_data waiting) in
     let other = report_object fend (lines_data kistory) (lines_data jtems) (lines_data xaiting) in
@@ -85,28 +84,29 @@ strings-back (l ∷ ls) = ap (λ t. l ∷ t) (strings-back ls)
 
 -- the lines of equal values
 same_lines : (k : ℕ) (one other : Option Json) (xs ys : List (List ℕ)) → one ≡ other
-  → lines_back (member_at k (members_back one)) ≡ strings_back (items_outline (strings_of xs))
-  → lines_back (member_at k (members_back other)) ≡ strings_back (items_outline (strings_of ys))
-  → xs ≡ ys
+    → lines_back (member_at k (members_back one)) ≡ strings_back (items_outline (strings_of xs))
+    → lines_back (member_at k (members_back other)) ≡ strings_back (items_outline (strings_of ys))
+    → xs ≡ ys
 same_lines k one other xs ys e x y =
     sym (strings-back xs) ∙ (sym x ∙ (ap (λ v. lines_back (member_at k (members_back v))) e ∙ (y ∙ strings-back ys)))
 
 -- ---- reports
 
 one_report :
-  (r s : Report) → Each IsItem r.items → Each IsItem s.items → Each IsEntry r.history → Each IsEntry s.history → IsRunEnd r.end → IsRunEnd s.end
-  → json_text r ≡ json_text s
-  → (r.items ≡ s.items) × (r.history ≡ s.history) × (r.end ≡ s.end) × (map waiting_line r.waiting ≡ map waiting_line s.waiting)
+    (r s : Report) → Each IsItem r.items → Each IsItem s.items → Each IsEntry r.history → Each IsEntry s.history → IsRunEnd r.end → IsRunEnd s.end
+    → json_text r ≡ json_text s
+    → (r.items ≡ s.items) × (r.history ≡ s.history) × (r.end ≡ s.end) × (map waiting_line r.waiting ≡ map waiting_line s.waiting)
 one_report r s a b c d f g e =
     let one = Some (value_of (end_word r.end) (act_lines 1 r.history) (map item_line r.items) (map waiting_line r.waiting)) in
     let other = Some (value_of (end_word s.end) (act_lines 1 s.history) (map item_line s.items) (map waiting_line s.waiting)) in
     let same : one ≡ other =
-        one_data (end_word r.end) (end_word s.end) (act_lines 1 r.history) (act_lines 1 s.history) (map item_line r.items) (map item_line s.items)
-            (map waiting_line r.waiting) (map waiting_line s.waiting) e in
-    (one_list IsItem item_line one_item r.items s.items a b (same_lines 2 one other (map item_line r.items) (map item_line s.items) same refl refl),
-     one_history 1 r.history s.history c d (same_lines 1 one other (act_lines 1 r.history) (act_lines 1 s.history) same refl refl),
-     one_end r.end s.end f g (ap (λ v. string_back (member_at 0 (members_back v))) same),
-     same_lines 4 one other (map waiting_line r.waiting) (map waiting_line s.waiting) same refl refl)
+    one_data (end_word r.end) (end_word s.end) (act_lines 1 r.history) (act_lines 1 s.history) (map item_line r.items) (map item_line s.items)
+    (map waiting_line r.waiting) (map waiting_line s.waiting) e in (
+      one_list IsItem item_line one_item r.items s.items a b (same_lines 2 one other (map item_line r.items) (map item_line s.items) same refl refl),
+      one_history 1 r.history s.history c d (same_lines 1 one other (act_lines 1 r.history) (act_lines 1 s.history) same refl refl),
+      one_end r.end s.end f g (ap (λ v. string_back (member_at 0 (members_back v))) same),
+      same_lines 4 one other (map waiting_line r.waiting) (map waiting_line s.waiting) same refl refl,
+    )
 
 pub json_tells_run : JsonTellsRun
 json_tells_run one other h k e =

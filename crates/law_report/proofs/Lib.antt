@@ -8,3 +8,4 @@ pub mod Items
 pub mod Lines
 pub mod Report
 pub mod Json
+pub mod Escapes

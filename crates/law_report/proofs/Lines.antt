@@ -1,9 +1,8 @@
 -- A text of lines is split into them, and a value is read back from its line.
-use Rattle.std.proofs.Common.{◌≡◌, ℕ, Bool, true, false, ◌&&◌, not, nat_eq, nat_lt, slice_index_or, List, [], ◌∷◌, ◌++◌, map, drop, refl, sym, ap, ◌∙◌, subst, append_assoc, arith}
-use Rattle.std.proofs.lemmas.Bool.Decides.{nat_tests}
+use Rattle.std.proofs.Common.{◌≡◌, ℕ, Bool, true, false, slice_index_or, List, [], ◌∷◌, ◌++◌, map, drop, refl, sym, ap, ◌∙◌, append_assoc}
 use Rattle.spec_report.specs.Items.{lines_text}
 use Rattle.law_report.specs.Forms.{Each}
-use Rattle.law_report.proofs.Words.{pieces, pieces-join, pieces-lacks, above, lacks, above-lacks, IsLine}
+use Rattle.law_report.proofs.Words.{pieces, pieces-join, pieces-lacks, above, above-lacks, IsLine}
 
 -- values with one line are one value, where each is read back from the words of its line
 pub one_value : {T : Type 0} (back : List (List ℕ) → T) (x y : T) {s t : List ℕ} {us vs : List (List ℕ)} → IsLine s us → IsLine t vs → back us ≡ x → back vs ≡ y → s ≡ t → x ≡ y
@@ -30,13 +29,13 @@ same_rest x y xs ys e = ap (λ zs. drop 1 zs) e
 
 -- equal lines of lists of values are of equal values
 pub one_list : {T : Type 0} (P : T → Type 0) (line : T → List ℕ) → ((x y : T) → P x → P y → line x ≡ line y → x ≡ y)
-  → (xs ys : List T) → Each P xs → Each P ys → map line xs ≡ map line ys → xs ≡ ys
+    → (xs ys : List T) → Each P xs → Each P ys → map line xs ≡ map line ys → xs ≡ ys
 one_list P line same [] [] h k e = refl
 one_list P line same [] (y ∷ ys) h k e = cc
 one_list P line same (x ∷ xs) [] h k e = cc
 one_list P line same (x ∷ xs) (y ∷ ys) h k e =
     λ i. same x y h.0 k.0 (same_first (line x) (line x) (line y) (map line xs) (map line ys) e) i
-      ∷ one_list P line same xs ys h.1 k.1 (same_rest (line x) (line y) (map line xs) (map line ys) e) i
+    ∷ one_list P line same xs ys h.1 k.1 (same_rest (line x) (line y) (map line xs) (map line ys) e) i
 
 -- a test fails at each line
 abbrev pub NoneIs : (List ℕ → Bool) → List (List ℕ) → Type 0
@@ -49,7 +48,7 @@ opens p (l ∷ ls) = p l
 
 -- a list is cut at the first line at which the test holds
 pub one_cut : (p : List ℕ → Bool) (us vs rs ss : List (List ℕ)) → NoneIs p us → NoneIs p vs → opens p rs ≡ true → opens p ss ≡ true
-  → us ++ rs ≡ vs ++ ss → (us ≡ vs) × (rs ≡ ss)
+    → us ++ rs ≡ vs ++ ss → (us ≡ vs) × (rs ≡ ss)
 one_cut p [] [] rs ss h k r s e = (refl, e)
 one_cut p [] (v ∷ vs) rs ss h k r s e = absurd (differ (sym r ∙ (ap (opens p) e ∙ k.0)))
   where

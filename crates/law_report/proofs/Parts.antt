@@ -1,5 +1,5 @@
 -- The parts of an item's line are read back from their words.
-use Rattle.std.proofs.Common.{◌≡◌, ℕ, Bool, true, false, ◌&&◌, not, nat_eq, nat_lt, cond, Option, Some, None, List, [], ◌∷◌, ◌++◌, drop, slice_index_or, codes, refl, sym, ap, ◌∙◌, arith}
+use Rattle.std.proofs.Common.{◌≡◌, ℕ, Bool, true, false, ◌&&◌, not, nat_eq, nat_lt, cond, Option, Some, None, List, [], ◌∷◌, ◌++◌, drop, slice_index_or, codes, refl, ap, ◌∙◌, arith}
 use Rattle.std.proofs.lemmas.Bool.Decides.{nat_tests}
 use Rattle.std.specs.Fmt.{decimal}
 use Rattle.ax_types.specs.Ends.{end_text as link_end_text}
@@ -20,8 +20,8 @@ use Rattle.ax_types.specs.declared.items.SkipReason.TheVariants as skip
 use Rattle.spec_report.specs.Calls.{level_text, call_text}
 use Rattle.spec_report.specs.Items.{payload_kind_text, watch_text, skip_text, arrival_text, reach_text}
 use Rattle.law_report.specs.Forms.{IsNumber, IsEnd, IsReach, IsSkip, IsCall}
-use Rattle.law_report.proofs.Words.{above, lacks, above-lacks, all-weaker, all-append, pieces, pieces-join, pieces-lacks, and_second, IsLine, word, join, at, is_word, eq-self}
-use Rattle.law_report.proofs.Numbers.{number_back, number-back, number_line, name_line, decimal-above}
+use Rattle.law_report.proofs.Words.{above, lacks, above-lacks, all-weaker, all-append, pieces, pieces-join, pieces-lacks, IsLine, word, join, at, is_word, eq-self}
+use Rattle.law_report.proofs.Numbers.{number_back, number-back, number_line, decimal-above}
 use Rattle.law_report.proofs.Operations.{op_words, op_back, op-line, op-back}
 use Rattle.law_report.proofs.Queries.{query_words, query_back, query-line, query-back}
 
@@ -178,7 +178,7 @@ call_words (call.Query l name q) = codes "query" ∷ level_text l ∷ query_word
 abbrev pub call_back : List (List ℕ) → WindowCall
 call_back ws =
     cond (is_word (at 0 ws) (codes "call")) (call.Command (at 2 ws) (op_back (drop 1 ws)))
-        (call.Query (level_back (at 1 ws)) (at 3 ws) (query_back (drop 2 ws)))
+    (call.Query (level_back (at 1 ws)) (at 3 ws) (query_back (drop 2 ws)))
 
 pub call-line : (o : WindowCall) → IsCall o → IsLine (call_text o) (call_words o)
 call-line (call.Command name o) h = join (word (codes "call") refl) (op-line name o h.0 h.1)

@@ -1,5 +1,5 @@
 -- A run is read back from the text of its report.
-use Rattle.std.proofs.Common.{◌≡◌, ℕ, ◌+◌, Bool, true, false, nat_lt, cond, slice_index_or, List, [], ◌∷◌, ◌++◌, map, drop, length, codes, refl, sym, ap, ◌∙◌, subst, append_assoc, arith}
+use Rattle.std.proofs.Common.{◌≡◌, ℕ, ◌+◌, Bool, true, false, nat_lt, cond, slice_index_or, List, [], ◌∷◌, ◌++◌, map, drop, length, codes, refl, sym, ap, ◌∙◌, arith}
 use Rattle.std.proofs.lemmas.Bool.Decides.{nat_tests}
 use Rattle.std.specs.Fmt.{decimal}
 use Rattle.ax_types.specs.declared.entries.Act.{Act}
@@ -10,11 +10,11 @@ use Rattle.ax_types.specs.declared.items.Item.{Item}
 use Rattle.ax_types.specs.declared.items.Item.TheVariants as item
 use Rattle.ax_types.specs.declared.ops.Op.TheVariants as op
 use Rattle.spec_report.specs.Calls.{one_operand}
-use Rattle.spec_report.specs.Items.{lines_text, item_line, items_text, waiting_line, waiting_text, waiting_of}
-use Rattle.spec_report.specs.Report.{act_text, act_line, act_lines, history_line, history_text, end_word, end_text, head_text, report_text}
-use Rattle.law_report.specs.Forms.{IsNumber, Each, IsItem, IsAct, IsEntry, IsRunEnd, IsCallNumber}
-use Rattle.law_report.specs.Laws.{Run, IsRun, text_of, TextTellsRun}
-use Rattle.law_report.proofs.Words.{IsLine, word, join, at, is_word, pieces, pieces-join, pieces-lacks, above, above-lacks}
+use Rattle.spec_report.specs.Items.{item_line, waiting_line, waiting_text, waiting_of}
+use Rattle.spec_report.specs.Report.{act_text, act_line, act_lines, history_line, history_text, end_word, end_text, report_text}
+use Rattle.law_report.specs.Forms.{Each, IsItem, IsAct, IsEntry, IsRunEnd, IsCallNumber}
+use Rattle.law_report.specs.Laws.{TextTellsRun}
+use Rattle.law_report.proofs.Words.{IsLine, word, join, at, is_word, pieces, pieces-join, pieces-lacks, above-lacks}
 use Rattle.law_report.proofs.Numbers.{number_back, number-back, number_line, decimal-begins}
 use Rattle.law_report.proofs.Operations.{op_words, op_back, op-line, op-back}
 use Rattle.law_report.proofs.Items.{item_words, item_back, item-line, item-back}
@@ -111,7 +111,7 @@ entry-line place x h = join (number_line place) (join (number_line x.0) (act-lin
 pub one_entry : (place : ℕ) (x y : ℕ × Act) → IsEntry x → IsEntry y → act_line place x ≡ act_line place y → x ≡ y
 one_entry place x y h k e =
     one_value entry_back x y (entry-line place x h) (entry-line place y k)
-        (λ i. (number-back x.0 h.0 i, act-back x.1 h.1 i)) (λ i. (number-back y.0 k.0 i, act-back y.1 k.1 i)) e
+    (λ i. (number-back x.0 h.0 i, act-back x.1 h.1 i)) (λ i. (number-back y.0 k.0 i, act-back y.1 k.1 i)) e
 
 pub one_history : (place : ℕ) (xs ys : List (ℕ × Act)) → Each IsEntry xs → Each IsEntry ys → act_lines place xs ≡ act_lines place ys → xs ≡ ys
 one_history place [] [] h k e = refl
@@ -121,7 +121,7 @@ one_history place (x ∷ xs) (y ∷ ys) h k e =
     let us = act_lines (place + 1) xs in
     let vs = act_lines (place + 1) ys in
     λ i. one_entry place x y h.0 k.0 (same_first (act_line place x) (act_line place x) (act_line place y) us vs e) i
-      ∷ one_history (place + 1) xs ys h.1 k.1 (same_rest (act_line place x) (act_line place y) us vs e) i
+    ∷ one_history (place + 1) xs ys h.1 k.1 (same_rest (act_line place x) (act_line place y) us vs e) i
 
 pub acts_are_lines : (place : ℕ) (xs : List (ℕ × Act)) → Each IsEntry xs → AreLines (act_lines place xs)
 acts_are_lines place [] h = tt
@@ -157,7 +157,7 @@ waiting-line a = join (word (codes "waiting") refl) (join (number_line a.0) (num
 pub one_call_number : (a b : ℕ × ℕ) → IsCallNumber a → IsCallNumber b → waiting_line a ≡ waiting_line b → a ≡ b
 one_call_number a b h k e =
     one_value call_number_back a b (waiting-line a) (waiting-line b)
-        (λ i. (number-back a.0 h.0 i, number-back a.1 h.1 i)) (λ i. (number-back b.0 k.0 i, number-back b.1 k.1 i)) e
+    (λ i. (number-back a.0 h.0 i, number-back a.1 h.1 i)) (λ i. (number-back b.0 k.0 i, number-back b.1 k.1 i)) e
 
 pub waiting_are_lines : (xs : List (ℕ × ℕ)) → AreLines (map waiting_line xs)
 waiting_are_lines [] = tt
@@ -203,45 +203,47 @@ body_lines items history end =
     map item_line items ++ (history_line history ∷ (act_lines 1 history ++ tail_lines (waiting_of items) end))
 
 report-pieces : (items : List Item) (history : List (ℕ × Act)) (end : RunEnd) → Each IsItem items → Each IsEntry history
-  → pieces 10 (report_text items history end) ≡ codes "report 1" ∷ body_lines items history end
+    → pieces 10 (report_text items history end) ≡ codes "report 1" ∷ body_lines items history end
 report-pieces items history end h k =
     let behind = waiting_text (waiting_of items) ++ end_text end in
     ap (λ ls. codes "report 1" ∷ ls)
-        (pieces-lines (map item_line items) (history_text history ++ behind) (items_are_lines items h)
-        ∙ ap (λ ls. map item_line items ++ ls)
-            (pieces-lines (history_line history ∷ act_lines 1 history) behind ((history-line history).bytes, acts_are_lines 1 history k)
-            ∙ ap (λ ls. history_line history ∷ (act_lines 1 history ++ ls))
-                (pieces-lines (map waiting_line (waiting_of items)) (end_text end) (waiting_are_lines (waiting_of items))
-                ∙ ap (λ ls. map waiting_line (waiting_of items) ++ ls) (end-pieces end))))
+    (pieces-lines (map item_line items) (history_text history ++ behind) (items_are_lines items h)
+    ∙ ap (λ ls. map item_line items ++ ls)
+    (pieces-lines (history_line history ∷ act_lines 1 history) behind ((history-line history).bytes, acts_are_lines 1 history k)
+    ∙ ap (λ ls. history_line history ∷ (act_lines 1 history ++ ls))
+    (pieces-lines (map waiting_line (waiting_of items)) (end_text end) (waiting_are_lines (waiting_of items))
+    ∙ ap (λ ls. map waiting_line (waiting_of items) ++ ls) (end-pieces end))))
 
 -- ---- runs
 
 one_body :
-  (items jtems : List Item) (history kistory : List (ℕ × Act)) (end fend : RunEnd)
-  → Each IsItem items → Each IsItem jtems → Each IsEntry history → Each IsEntry kistory → IsRunEnd end → IsRunEnd fend
-  → body_lines items history end ≡ body_lines jtems kistory fend
-  → (items ≡ jtems) × (history ≡ kistory) × (end ≡ fend)
+    (items jtems : List Item) (history kistory : List (ℕ × Act)) (end fend : RunEnd)
+    → Each IsItem items → Each IsItem jtems → Each IsEntry history → Each IsEntry kistory → IsRunEnd end → IsRunEnd fend
+    → body_lines items history end ≡ body_lines jtems kistory fend
+    → (items ≡ jtems) × (history ≡ kistory) × (end ≡ fend)
 one_body items jtems history kistory end fend a b c d f g e =
     let us = act_lines 1 history ++ tail_lines (waiting_of items) end in
     let vs = act_lines 1 kistory ++ tail_lines (waiting_of jtems) fend in
     let cut = one_cut is_history (map item_line items) (map item_line jtems) (history_line history ∷ us) (history_line kistory ∷ vs)
-            (items_are_no_history items a) (items_are_no_history jtems b) (is_history_line history) (is_history_line kistory) e in
+    (items_are_no_history items a) (items_are_no_history jtems b) (is_history_line history) (is_history_line kistory) e in
     let same_items = one_list IsItem item_line one_item items jtems a b cut.0 in
     let split = one_cut is_past_digits (act_lines 1 history) (act_lines 1 kistory) (tail_lines (waiting_of items) end) (tail_lines (waiting_of jtems) fend)
-            (acts_begin_with_digits 1 history) (acts_begin_with_digits 1 kistory)
-            (tail_is_past_digits (waiting_of items) end) (tail_is_past_digits (waiting_of jtems) fend)
-            (same_rest (history_line history) (history_line kistory) us vs cut.1) in
+    (acts_begin_with_digits 1 history) (acts_begin_with_digits 1 kistory)
+    (tail_is_past_digits (waiting_of items) end) (tail_is_past_digits (waiting_of jtems) fend)
+    (same_rest (history_line history) (history_line kistory) us vs cut.1) in
     let same_tail : tail_lines (waiting_of items) end ≡ tail_lines (waiting_of items) fend =
-        split.1 ∙ ap (λ is. tail_lines (waiting_of is) fend) (sym same_items) in
+    split.1 ∙ ap (λ is. tail_lines (waiting_of is) fend) (sym same_items) in
     let ends : one_operand (codes "end") (end_word end) ∷ [] ∷ [] ≡ one_operand (codes "end") (end_word fend) ∷ [] ∷ [] =
-        same_behind (map waiting_line (waiting_of items)) _ _ same_tail in
-    (same_items, one_history 1 history kistory c d split.0,
-      one_end end fend f g (ap (λ l. drop 4 l) (same_first [] _ _ _ _ ends)))
+    same_behind (map waiting_line (waiting_of items)) _ _ same_tail in (
+      same_items,
+      one_history 1 history kistory c d split.0,
+      one_end end fend f g (ap (λ l. drop 4 l) (same_first [] _ _ _ _ ends)),
+    )
 
 pub text_tells_run : TextTellsRun
 text_tells_run one other h k e =
     let same = one_body one.items other.items one.history other.history one.end other.end h.items k.items h.history k.history h.end k.end
-            (same_rest (codes "report 1") (codes "report 1") _ _
-                (sym (report-pieces one.items one.history one.end h.items h.history)
-                ∙ (ap (pieces 10) e ∙ report-pieces other.items other.history other.end k.items k.history))) in
+    (same_rest (codes "report 1") (codes "report 1") _ _
+    (sym (report-pieces one.items one.history one.end h.items h.history)
+    ∙ (ap (pieces 10) e ∙ report-pieces other.items other.history other.end k.items k.history))) in
     λ i. record { items = same.0 i; history = same.1 i; end = same.2 i }
