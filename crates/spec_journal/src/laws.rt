@@ -1,5 +1,5 @@
 //! What appends and torn appends leave of a journal, and how its records are read one by one.
-ghost use Rattle.std.specs.Prelude.{◌≡◌, ℕ, ◌+◌, ◌-◌, ◌<◌, ◌^◌, List as Items, Option as Maybe, [], ◌∷◌, ◌++◌, length, fold, slice_get};
+ghost use Rattle.std.specs.Prelude.{◌≡◌, ℕ, ◌+◌, ◌-◌, ◌<◌, ◌^◌, List as Items, Option as Maybe, [], ◌∷◌, ◌++◌, length, take, fold};
 ghost use Rattle.std.specs.List.{AllByRecursion};
 ghost use Rattle.ax_types.specs.declared.entries.Entry.{Entry};
 ghost use Rattle.spec_wire.specs.Ranges.{IsNumber, FitsEntry};
@@ -12,6 +12,9 @@ pub fn next_record()
     ensures whole { (j : Journal) (bytes : Items ℕ) (r : Record) (rest : Items ℕ) → IsClean j → length j.content.log + 1 < 2 ^ 64 → IsBytes bytes
         → record_at j.counted (length j.content.log) bytes ≡ Ok (r, rest)
         → fold fed j bytes ≡ fold fed (with_record j r (length bytes - length rest)) rest }
+    ensures own { (j : Journal) (bytes : Items ℕ) (r : Record) (rest : Items ℕ) → IsClean j → length j.content.log + 1 < 2 ^ 64 → IsBytes bytes
+        → record_at j.counted (length j.content.log) bytes ≡ Ok (r, rest)
+        → fold fed j (take (length bytes - length rest) bytes) ≡ with_record j r (length bytes - length rest) }
     ensures part { (j : Journal) (bytes : Items ℕ) → IsClean j → length j.content.log + 1 < 2 ^ 64 → IsBytes bytes
         → record_at j.counted (length j.content.log) bytes ≡ Err Part → fold fed j bytes ≡ torn_to j bytes }
     ensures wrong { (j : Journal) (bytes : Items ℕ) → IsClean j → length j.content.log + 1 < 2 ^ 64 → IsBytes bytes

@@ -31,8 +31,10 @@ pub fn read_payload_is_spelled()
 
 /// The front of a spelling that lacks a byte or more is read as a part.
 pub fn torn_payload_is_a_part()
-    ensures { (p : Payload) (front : Items ℕ) (byte : ℕ) (more : Items ℕ) → FitsPayload p → IsTrue (is_spelled p)
+    ensures at { (p : Payload) (front : Items ℕ) (byte : ℕ) (more : Items ℕ) → FitsPayload p → IsTrue (is_spelled p)
         → IsBytes (byte ∷ more) → payload_bytes p ≡ front ++ byte ∷ more → payload_at front ≡ Err Part }
+    ensures read { (p : Payload) (front : Items ℕ) (byte : ℕ) (more : Items ℕ) → FitsPayload p → IsTrue (is_spelled p)
+        → IsBytes (byte ∷ more) → payload_bytes p ≡ front ++ byte ∷ more → payload_read front ≡ None }
 {}
 
 /// No spelling begins another: bytes begin with the spelling of one payload at most.
@@ -58,8 +60,10 @@ pub fn read_entry_is_spelled()
 
 /// The front of a spelling that lacks a byte or more is read as a part.
 pub fn torn_entry_is_a_part()
-    ensures { (e : Entry) (front : Items ℕ) (byte : ℕ) (more : Items ℕ) → FitsEntry e
+    ensures at { (e : Entry) (front : Items ℕ) (byte : ℕ) (more : Items ℕ) → FitsEntry e
         → IsBytes (byte ∷ more) → entry_bytes e ≡ front ++ byte ∷ more → entry_at front ≡ Err Part }
+    ensures read { (e : Entry) (front : Items ℕ) (byte : ℕ) (more : Items ℕ) → FitsEntry e
+        → IsBytes (byte ∷ more) → entry_bytes e ≡ front ++ byte ∷ more → entry_read front ≡ None }
 {}
 
 /// No spelling begins another: bytes begin with the spelling of one entry at most.
