@@ -106,17 +106,17 @@ next_whole j bytes r rest clean room are_bytes e =
     ∙ ap (λ (n : ℕ). fold fed (with_record j r n) rest) size
 
 pub next_own : (j : Journal) (bytes : List ℕ) (r : Record) (rest : List ℕ) → IsClean j → HasRoom j → IsBytes bytes → reading j bytes ≡ ok (r, rest)
-  → fold fed j (take (length bytes - length rest) bytes) ≡ with_record j r (length bytes - length rest)
+    → fold fed j (take (length bytes - length rest) bytes) ≡ with_record j r (length bytes - length rest)
 next_own j bytes r rest clean room are_bytes e =
     let s = (record_reads j.counted (length j.content.log) room).exact.spelled bytes r rest are_bytes e in
     let own : IsBytes (record_bytes r) = IsBytes-front (record_bytes r) rest (subst IsBytes s.0 are_bytes) in
     let size : length (record_bytes r) ≡ length bytes - length rest = omega (arith, ap length s.0, length-append (record_bytes r) rest) in
     let front : take (length (record_bytes r)) bytes ≡ record_bytes r =
-        ap (take (length (record_bytes r))) s.0 ∙ take_at (record_bytes r) rest (length (record_bytes r)) refl in
+    ap (take (length (record_bytes r))) s.0 ∙ take_at (record_bytes r) rest (length (record_bytes r)) refl in
     ap (λ (n : ℕ). fold fed j (take n bytes)) (sym size)
-      ∙ ap (fold fed j) front
-      ∙ feed_record j r clean room s.1 own
-      ∙ ap (with_record j r) size
+    ∙ ap (fold fed j) front
+    ∙ feed_record j r clean room s.1 own
+    ∙ ap (with_record j r) size
 
 pub next_part : (j : Journal) (bytes : List ℕ) → IsClean j → HasRoom j → IsBytes bytes → reading j bytes ≡ Err Part → fold fed j bytes ≡ torn_to j bytes
 next_part j bytes clean room are_bytes e = ap (λ (k : Journal). fold fed k bytes) (sym (clean_is j clean)) ∙ feed-part j [] bytes room are_bytes e

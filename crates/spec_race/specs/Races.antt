@@ -1,5 +1,5 @@
 -- A race: its set-up, its rounds over the calls that were taken, and what its callers are told.
-use Rattle.std.specs.Prelude.{ℕ, suc, ◌≡◌, ◌⊎◌, ◌+◌, ◌-◌, Bool, true, false, ◌||◌, ◌&&◌, nat_eq, nat_lt, Option, None, Some, List, [], ◌∷◌, ◌++◌, length, map, flat_map, if◌then◌else◌}
+use Rattle.std.specs.Prelude.{ℕ, suc, ◌≡◌, ◌⊎◌, ◌≤◌, ◌+◌, ◌-◌, Bool, true, false, ◌||◌, ◌&&◌, nat_eq, nat_lt, Option, None, Some, List, [], ◌∷◌, ◌++◌, length, map, flat_map, if◌then◌else◌}
 use Rattle.ax_types.specs.Places.{at_place}
 use Rattle.ax_types.specs.declared.items.Item.{Item}
 use Rattle.ax_types.specs.declared.items.Item.TheVariants as item
@@ -146,6 +146,7 @@ pub record IsRace (script : Script) (taken : List WindowCall) (steps : List Kept
   pub rounds : List KeptStep
   pub takes : List (List WindowCall)
   pub later : List WindowCall
+  pub within : length steps ≤ most_steps
   pub parts : steps ≡ setup ++ rounds
   pub setup_is : setup ≡ unfolded (first_world script) (works_of script.lines) (map (λ s. s.outcome) setup)
   pub setup_end : (left_after (first_world script) (works_of script.lines) setup ≡ None) ⊎ ((length setup ≡ most_steps) × (takes ≡ []))
