@@ -2,13 +2,14 @@
 use Rattle.std.specs.Prelude.{◌≡◌, ℕ, ◌||◌, nat_eq, if◌then◌else◌, List, [], ◌∷◌, ◌++◌, map}
 use Rattle.json.specs.Print.{quoted}
 use Rattle.ax_types.specs.declared.items.Item.{Item}
+use Rattle.ax_types.specs.declared.items.Item.TheVariants as item
 use Rattle.ax_types.specs.declared.entries.Act.{Act}
+use Rattle.ax_types.specs.declared.entries.Act.TheVariants as act
 use Rattle.ax_types.specs.declared.scripts.RunEnd.{RunEnd}
 use Rattle.ax_types.specs.declared.scripts.Report.{Report}
 use Rattle.ax_types.specs.declared.scripts.RunEnd.TheVariants as run_end
 use Rattle.spec_report.specs.Items.{item_line, waiting_line, waiting_of}
 use Rattle.spec_report.specs.Report.{act_lines, end_word, report_text}
-use Rattle.spec_report.specs.Examples.{one_add_items, one_add_history}
 use Rattle.spec_report.specs.Json.{json_text}
 use Rattle.law_report.specs.Forms.{Each, IsItem, IsEntry, IsRunEnd, IsReport}
 
@@ -57,6 +58,6 @@ marked (b ∷ bs) = if nat_eq b 34 || nat_eq b 92 then 92 ∷ (b ∷ marked bs) 
 abbrev pub EscapesQuotesAlone : Type 0
 EscapesQuotesAlone = (report : Report) → IsReport report → Each (λ l. quoted l ≡ 34 ∷ (marked l ++ (34 ∷ []))) (strings_of report)
 
--- a run in which one client adds 5 to a long
-abbrev pub one_add_run : Run
-one_add_run = record { items = one_add_items; history = one_add_history; end = run_end.Done }
+-- a run in which a node becomes leader
+abbrev pub first_run : Run
+first_run = record { items = item.Leader 1 1 ∷ item.Commit 1 ∷ []; history = (0, act.Nothing) ∷ []; end = run_end.Done }

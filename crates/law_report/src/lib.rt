@@ -1,7 +1,7 @@
 //! Different runs have different reports, in text and in JSON.
 #![tactic(auto)]
 
-ghost use Rattle.law_report.specs.Laws.{TextTellsRun, JsonTellsRun, JsonTellsReport, EscapesQuotesAlone, IsRun, one_add_run};
+ghost use Rattle.law_report.specs.Laws.{TextTellsRun, JsonTellsRun, JsonTellsReport, EscapesQuotesAlone, IsRun, first_run};
 
 /// Runs whose reports have one text are one run: the items, the history and the end are told apart.
 pub fn text_tells_run()
@@ -24,6 +24,6 @@ pub fn json_escapes_quotes_alone()
 {}
 
 /// The values of a run as they come are within their types, as these laws ask.
-pub fn one_add_is_run()
-    ensures { IsRun one_add_run }
+pub fn first_run_is_run()
+    ensures { IsRun first_run }
 {}

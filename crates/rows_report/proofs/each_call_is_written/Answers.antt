@@ -1,6 +1,6 @@
 use Rattle.std.proofs.Common.{refl}
 use Rattle.std.specs.Fmt.{digits}
-use Rattle.spec_report.proofs.doubt_is_written.Goals as goal
+use Rattle.rows_report.proofs.each_call_is_written.Goals as goal
 
 -- the text is computed
 pub returns : goal.returns
