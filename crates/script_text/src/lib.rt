@@ -2,3 +2,6 @@
 #![tactic(auto)]
 
 mod steps;
+mod texts;
+
+pub use texts::step_text;
