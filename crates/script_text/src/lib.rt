@@ -1,6 +1,8 @@
 //! Reads and writes the language of scripts.
 #![tactic(auto)]
 
+mod drafts;
+mod lines;
 mod steps;
 mod texts;
 
