@@ -1,18 +1,14 @@
 -- The history of a narrow run of quiet calls: it is lawful, tells nobody anything, and has the calls as the acts of session 2.
-use Rattle.std.proofs.Common.{◌≡◌, ℕ, zero, suc, ◌+◌, ◌-◌, ◌≤◌, ◌<◌, ◌⊎◌, Bool, true, false, not, ◌&&◌, ◌||◌, cond, nat_eq, nat_le, List, [], ◌∷◌, ◌++◌, Option, Some, None, refl, sym, ap, ap₂, ◌∙◌, subst, arith, map, filter, length, take, slice_get, count_by, option_map, IsTrue, add-one}
-use Rattle.std.specs.List.{AllByRecursion, list_any, list_all}
+use Rattle.std.proofs.Common.{◌≡◌, ℕ, zero, suc, ◌+◌, ◌-◌, ◌≤◌, ◌<◌, Bool, true, false, not, ◌&&◌, ◌||◌, cond, nat_eq, nat_le, List, [], ◌∷◌, Option, Some, None, refl, sym, ap, ap₂, ◌∙◌, subst, arith, map, length, take, slice_get, count_by, option_map, IsTrue}
+use Rattle.std.specs.List.{AllByRecursion, list_any}
 use Rattle.std.proofs.lemmas.Bool.{and_parts, le-leb, leb-true}
-use Rattle.std.proofs.lemmas.Bool.Decides.{nat_tests}
 use Rattle.ax_types.specs.Places.{at_place}
-use Rattle.ax_types.specs.declared.ops.Op.{Op}
 use Rattle.ax_types.specs.declared.entries.Act.{Act}
 use Rattle.ax_types.specs.declared.entries.Act.TheVariants as act
-use Rattle.ax_types.specs.declared.replies.Event.{Event}
-use Rattle.ax_types.specs.declared.replies.Turn.{Turn}
-use Rattle.spec_book.specs.Book.{Book, acted, pass, passed}
-use Rattle.spec_book.specs.History.{History, book_after, book_at, turn_there, turn_of, events_for, told_of, told_at, ends, is_live, session_of, IsDue, IsOfLive, IsLawful, Heard, heard_too, heard_upto, events, dos_after, dos}
+use Rattle.spec_book.specs.Book.{Book, acted}
+use Rattle.spec_book.specs.History.{History, book_after, book_at, turn_there, events_for, told_of, told_at, ends, is_live, session_of, IsDue, IsOfLive, IsLawful, heard_too, heard_upto, events, dos_after}
 use Rattle.spec_single.specs.Form.{Call, is_quiet}
-use Rattle.spec_single.specs.Run.{call_act, run_history}
+use Rattle.spec_single.specs.Run.{run_history}
 use Rattle.law_single.specs.Laws.{AreQuiet}
 use Rattle.law_single.proofs.Lists.{count_by-cons}
 use Rattle.law_single.proofs.Quiet.{IsQuietBook, IsStill, pass_quiet, passed_nil, do_still}
@@ -22,11 +18,11 @@ use Rattle.law_single.proofs.Replies.{acts_of}
 abbrev pub IsQuietAct : ℕ × Act → Type 0
 IsQuietAct a = (a.0 ≡ 0) × does_quiet a.1
   where
-  does_quiet : Act → Type 0
-  does_quiet (act.Do s name o) = IsTrue (is_quiet o)
-  does_quiet (act.Close s) = ⊥
-  does_quiet (act.Expire s) = ⊥
-  does_quiet _ = Unit {0}
+    does_quiet : Act → Type 0
+    does_quiet (act.Do s name o) = IsTrue (is_quiet o)
+    does_quiet (act.Close s) = ⊥
+    does_quiet (act.Expire s) = ⊥
+    does_quiet _ = Unit {0}
 
 abbrev pub AreQuietActs : History → Type 0
 AreQuietActs h = AllByRecursion IsQuietAct h

@@ -1,28 +1,26 @@
 -- A narrow run of quiet calls is faithful to its history.
-use Rattle.std.proofs.Common.{◌≡◌, ℕ, zero, suc, ◌+◌, ◌≤◌, ◌<◌, ◌⊎◌, Bool, true, false, ◌&&◌, nat_eq, nat_le, cond, max, List, [], ◌∷◌, ◌++◌, Option, Some, None, refl, sym, ap, ◌∙◌, subst, inl, inr, ⊎_elim, arith, map, flat_map, length, count_by, option_map, append-nil}
+use Rattle.std.proofs.Common.{◌≡◌, ℕ, zero, suc, ◌+◌, ◌≤◌, ◌<◌, false, nat_eq, nat_le, max, List, [], ◌∷◌, ◌++◌, Some, refl, sym, ap, ◌∙◌, subst, inl, inr, ⊎_elim, arith, map, length, count_by, option_map, append-nil}
 use Rattle.std.specs.List.{AllByRecursion}
 use Rattle.std.proofs.lemmas.List.{length-map}
 use Rattle.std.proofs.lemmas.Bool.{le-leb, ne_eqb, cases_eq}
 use Rattle.ax_types.specs.Places.{at_place}
 use Rattle.ax_types.specs.declared.entries.Act.{Act}
-use Rattle.ax_types.specs.declared.ops.WindowCall.TheVariants as call
 use Rattle.ax_types.specs.declared.items.Item.{Item}
 use Rattle.ax_types.specs.declared.items.Item.TheVariants as item
 use Rattle.spec_book.specs.Book.{Book}
-use Rattle.spec_book.specs.History.{History, dos, dos_after, events}
-use Rattle.spec_claims.specs.Transcript.{Shown, transcript, EachItem, StandsIn, calls, is_command, commands_upto, greatest_commit}
-use Rattle.spec_claims.specs.Once.{Begins, commands, dos_upto, IsCalledBefore, IsOnce}
+use Rattle.spec_book.specs.History.{dos, events}
+use Rattle.spec_claims.specs.Transcript.{transcript, EachItem, StandsIn, commands_upto, greatest_commit}
+use Rattle.spec_claims.specs.Once.{commands, dos_upto, IsCalledBefore, IsOnce}
 use Rattle.spec_claims.specs.Right.{IsRight, IsCommitted, IsOrdered}
 use Rattle.spec_claims.specs.Reads.{IsGrowing, IsFresh}
 use Rattle.spec_claims.specs.Heard.{heard, IsAfterEvents, IsHeard, AreHeardUpto, AreWatchedFrom, AreWatched}
 use Rattle.spec_claims.specs.Outcomes.{IsOutcome, IsInSession, EndsFrom, AreEnds}
-use Rattle.spec_claims.specs.Faithful.{IsFaithful, IsFaithfulTo}
+use Rattle.spec_claims.specs.Faithful.{IsFaithfulTo}
 use Rattle.spec_single.specs.Form.{Call}
-use Rattle.spec_single.specs.Run.{start_shown, calls_shown, call_act, call_acted, run_shown, run_items, run_history}
+use Rattle.spec_single.specs.Run.{calls_shown, call_act, call_acted, run_shown, run_items, run_history}
 use Rattle.law_single.specs.Laws.{AreQuiet, NarrowRunsAreFaithful}
 use Rattle.law_single.proofs.Acts.{run_quiet, run_lawful, events_nil, dos_names, dos_places, dos_count, dos_other}
-use Rattle.law_single.proofs.Replies.{acts_of}
-use Rattle.law_single.proofs.Items.{called, commit, replied, commands_more, upto_more, each_item}
+use Rattle.law_single.proofs.Items.{called, commit, commands_more, upto_more, each_item}
 
 -- each reply is the one that the history has at the place of its call
 number_of : (cs : List Call) (i : ℕ) → 0 < i → i ≤ length cs → option_map (λ d. d.0) (at_place (dos (run_history cs) 2) i) ≡ Some (i + 2)
@@ -33,9 +31,11 @@ run_right : (cs : List Call) → EachItem (IsRight (run_history cs)) (run_items 
 run_right cs =
     each_item (IsRight (run_history cs)) cs (tt, tt, tt, (refl, refl))
     (λ i above c r h of.
-     let e : commands_upto 2 i (called i c ∷ above) ≡ i = upto_more i i above c (le-leb i i (omega arith)) (h.upto i (omega arith)) in
-     (tt, tt,
-      (ap (λ n. option_map (λ d. d.0) (at_place (dos (run_history cs) 2) n)) e ∙ number_of cs i of.first of.last, of.reply)))
+    let e : commands_upto 2 i (called i c ∷ above) ≡ i = upto_more i i above c (le-leb i i (omega arith)) (h.upto i (omega arith)) in (
+      tt,
+      tt,
+      (ap (λ n. option_map (λ d. d.0) (at_place (dos (run_history cs) 2) n)) e ∙ number_of cs i of.first of.last, of.reply),
+    ))
 
 run_committed : (cs : List Call) → EachItem IsCommitted (run_items cs)
 run_committed cs = each_item IsCommitted cs (tt, tt, tt, omega arith) (λ i above c r h of. (tt, tt, omega arith))
@@ -104,16 +104,17 @@ run_heard : (cs : List Call) (s : ℕ) → AreQuiet cs → IsHeard (run_items cs
 run_heard cs s q = record {
   in_order = (events (run_history cs) s, ap (λ x. x ++ events (run_history cs) s) (sym (calls_heard s 1 [] cs)));
   before_responses = each_item (IsAfterEvents (run_history cs) s) cs (tt, tt, tt, tt)
-    (λ i above c r h of. (tt, tt, λ e. none_heard cs s (i + 2) (commit i ∷ called i c ∷ above) q));
+      (λ i above c r h of. (tt, tt, λ e. none_heard cs s (i + 2) (commit i ∷ called i c ∷ above) q));
 }
 
 run_outcomes : (cs : List Call) → EachItem (IsOutcome 2) (run_items cs)
 run_outcomes cs =
     each_item (IsOutcome 2) cs ((tt, tt, tt), (tt, tt, tt), (tt, tt, tt), (tt, tt, tt))
-    (λ i above c r h of.
-     ((λ e. (sym h.numbered, h.unsent), tt, tt),
+    (λ i above c r h of. (
+      (λ e. (sym h.numbered, h.unsent), tt, tt),
       (tt, tt, tt),
-      (tt, (tt, (tt, h.numbers)), λ e. ((c.0, c.1, inr (inl refl)), h.unanswered))))
+      (tt, (tt, (tt, h.numbers)), λ e. ((c.0, c.1, inr (inl refl)), h.unanswered)),
+    ))
 
 run_in_session : (cs : List Call) → EachItem (IsInSession (run_history cs) 2) (run_items cs)
 run_in_session cs =
@@ -141,10 +142,11 @@ other_called_before cs s e =
 other_outcomes : (cs : List Call) (s : ℕ) → (s ≡ 2 → ⊥) → nat_eq s 2 ≡ false → EachItem (IsOutcome s) (run_items cs)
 other_outcomes cs s n e =
     each_item (IsOutcome s) cs ((tt, tt, tt), (tt, tt, tt), (tt, tt, tt), (tt, tt, tt))
-    (λ i above c r h of.
-     ((λ k. absurd (n k), tt, tt),
+    (λ i above c r h of. (
+      (λ k. absurd (n k), tt, tt),
       (tt, tt, tt),
-      (tt, rw e tt, λ k. absurd (n k))))
+      (tt, rw e tt, λ k. absurd (n k)),
+    ))
 
 faithful_to_other : (cs : List Call) (s : ℕ) → AreQuiet cs → (s ≡ 2 → ⊥) → IsFaithfulTo (run_items cs) (run_history cs) s
 faithful_to_other cs s q n = let e : nat_eq s 2 ≡ false = ne_eqb s 2 n in record {
@@ -156,7 +158,7 @@ faithful_to_other cs s q n = let e : nat_eq s 2 ≡ false = ne_eqb s 2 n in reco
   heard = run_heard cs s q;
   outcomes = other_outcomes cs s n e;
   in_session = each_item (IsInSession (run_history cs) s) cs (tt, tt, tt, tt)
-    (λ i above c r h of. (λ k. absurd (n k), tt, λ k. absurd (n k)));
+      (λ i above c r h of. (λ k. absurd (n k), tt, λ k. absurd (n k)));
 }
 
 faithful_to_each : (cs : List Call) (s : ℕ) → AreQuiet cs → IsFaithfulTo (run_items cs) (run_history cs) s

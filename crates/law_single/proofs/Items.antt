@@ -1,18 +1,19 @@
 -- The items of a narrow run, call by call: what stands above each, and how a claim of each item follows.
-use Rattle.std.proofs.Common.{◌≡◌, ℕ, zero, suc, ◌+◌, ◌≤◌, ◌<◌, Bool, true, false, ◌&&◌, nat_le, cond, max, List, [], ◌∷◌, ◌++◌, Option, Some, None, refl, sym, ap, ◌∙◌, subst, arith, map, length, count_by}
+use Rattle.std.proofs.Common.{◌≡◌, ℕ, ◌+◌, ◌≤◌, ◌<◌, true, false, nat_le, nat_lt, List, [], ◌∷◌, ◌++◌, Option, Some, None, refl, ap, arith, length, count_by}
 use Rattle.std.specs.List.{AllByRecursion}
 use Rattle.std.proofs.lemmas.List.{length-append, length-map}
-use Rattle.std.proofs.lemmas.Bool.{le-leb}
+use Rattle.std.proofs.lemmas.Bool.{le-leb, le-ltb, lt-ltb}
 use Rattle.ax_types.specs.declared.ops.WindowCall.TheVariants as call
 use Rattle.ax_types.specs.declared.entries.Act.{Act}
 use Rattle.ax_types.specs.declared.replies.Reply.{Reply}
 use Rattle.ax_types.specs.declared.items.Item.{Item}
 use Rattle.ax_types.specs.declared.items.Item.TheVariants as item
 use Rattle.spec_book.specs.Book.{Book}
-use Rattle.spec_book.specs.History.{History, reply_at}
+use Rattle.spec_book.specs.History.{reply_at}
 use Rattle.spec_claims.specs.Transcript.{transcript, EachBelow, EachItem, calls, is_command, commands_upto, outcome_of, greatest_commit}
 use Rattle.spec_claims.specs.Right.{is_opened}
 use Rattle.spec_claims.specs.Outcomes.{is_unsent, is_unanswered, is_ended, IsBelowNumber}
+use Rattle.spec_claims.specs.Handed.{is_reply_at}
 use Rattle.spec_single.specs.Form.{Call}
 use Rattle.spec_single.specs.Run.{calls_shown, call_act, call_acted, run_items, run_history}
 use Rattle.law_single.proofs.Lists.{count_by-cons}
@@ -43,6 +44,7 @@ pub record IsAbove (i : ℕ) (above : List Item) : Type 0 where
   pub opened : count_by (is_opened 2) above ≡ 1
   pub ended : count_by (is_ended 2) above ≡ 0
   pub numbers : AllByRecursion (IsBelowNumber 2 i) above
+  pub replies : (p : ℕ) → i + 2 ≤ p → count_by (is_reply_at p) above ≡ 0
 
 pub above_first : IsAbove 1 opening
 above_first = record {
@@ -55,6 +57,7 @@ above_first = record {
   opened = refl;
   ended = refl;
   numbers = (tt, (tt, (tt, (tt, tt))));
+  replies = λ p l. refl;
 }
 
 abbrev IsBelow : ℕ → Option ℕ → Type 0
@@ -76,6 +79,13 @@ commands_more i above c h = rw count_by-cons (omega arith)
 pub upto_more : (i n : ℕ) (above : List Item) (c : Call) → nat_le i n ≡ true → commands_upto 2 n above + 1 ≡ i → commands_upto 2 n (called i c ∷ above) ≡ i
 upto_more i n above c e h = rw (count_by-cons, e) (omega arith)
 
+replies_more : (i p : ℕ) (above : List Item) (c : Call) (r : Reply) → i + 2 < p → count_by (is_reply_at p) above ≡ 0
+    → count_by (is_reply_at p) (replied i r ∷ commit i ∷ called i c ∷ above) ≡ 0
+replies_more i p above c r l h =
+    let e : nat_lt p (i + 2) ≡ false = le-ltb p (i + 2) (omega arith) in
+    let f : nat_lt (i + 2) p ≡ true = lt-ltb (i + 2) p l in
+    rw (count_by-cons, e, f) (omega arith)
+
 above_more : (i : ℕ) (above : List Item) (c : Call) (r : Reply) → IsAbove i above → IsAbove (i + 1) (replied i r ∷ commit i ∷ called i c ∷ above)
 above_more i above c r h = record {
   numbered = ap (λ n. n + 1) (omega (arith, h.numbered));
@@ -87,6 +97,7 @@ above_more i above c r h = record {
   opened = h.opened;
   ended = h.ended;
   numbers = (omega arith, (tt, (tt, numbers_more i above h.numbers)));
+  replies = λ p l. replies_more i p above c r (omega arith) (h.replies p (omega arith));
 }
 
 -- a reply of the run: the number of its call, and what the history has at its place
@@ -114,11 +125,18 @@ each_call : (all : List Call) (P : List Item → Item → Type 0) → OfEachCall
 each_call all P p i book [] above o f h = tt
 each_call all P p i book (c ∷ cs) above o f h =
     let r : Reply = (call_acted i book c).turn.reply in
-    let of : IsOfCall all i r = record { first = o; last = long_enough all i book c cs f; reply = reply_of_call (run_history all) i book c cs f; } in
-    let three : OfThree P above i c r = p i above c r h of in
-    (three.0, (three.1, (three.2,
-     each_call all P p (i + 1) (call_acted i book c).state cs (replied i r ∷ commit i ∷ called i c ∷ above) (omega arith)
-     (follows_more (run_history all) i book c cs f) (above_more i above c r h))))
+    let of : IsOfCall all i r = record { first = o; last = long_enough all i book c cs f; reply = reply_of_call (run_history all) i book c cs f } in
+    let three : OfThree P above i c r = p i above c r h of in (
+      three.0,
+      (
+        three.1,
+        (
+          three.2,
+          each_call all P p (i + 1) (call_acted i book c).state cs (replied i r ∷ commit i ∷ called i c ∷ above) (omega arith)
+              (follows_more (run_history all) i book c cs f) (above_more i above c r h),
+        ),
+      ),
+    )
 
 -- a claim of the items that open the run
 abbrev pub OfOpening : (List Item → Item → Type 0) → Type 0

@@ -4,3 +4,4 @@ pub mod Replies
 pub mod Acts
 pub mod Items
 pub mod Faithful
+pub mod Handed

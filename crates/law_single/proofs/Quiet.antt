@@ -1,12 +1,11 @@
 -- A quiet book: nobody listens and nobody waits for a lock. A quiet act there tells nobody, and leaves a quiet book.
-use Rattle.std.proofs.Common.{◌≡◌, ℕ, ◌+◌, Bool, true, false, cond, not, List, [], ◌∷◌, ◌++◌, Option, Some, None, IsTrue, refl, ap₂, filter, flat_map, map, ℤ, ◌+ℤ◌}
+use Rattle.std.proofs.Common.{◌≡◌, ℕ, Bool, true, false, cond, List, [], ◌∷◌, ◌++◌, Option, Some, None, IsTrue, refl, ap₂, ℤ, ◌+ℤ◌}
 use Rattle.std.specs.declared.cmp.Ordering.{Ordering}
 use Rattle.std.specs.declared.cmp.Ordering.TheVariants.{Less, Equal, Greater}
 use Rattle.std.specs.Ordering.{match_ordering, int_eq}
 use Rattle.std.specs.BTreeSet.{insert_key}
 use Rattle.std.specs.List.{AllByRecursion}
-use Rattle.std.specs.BTreeMap.{insert_entry, is_at}
-use Rattle.std.specs.Map.{lookup}
+use Rattle.std.specs.BTreeMap.{is_at}
 use Rattle.std.proofs.lemmas.Bool.{false≢true}
 use Rattle.ax_types.specs.declared.ops.Kind.{Kind}
 use Rattle.ax_types.specs.declared.ops.Kind.TheVariants as kind
@@ -37,7 +36,7 @@ use Rattle.ax_types.specs.declared.replies.Reply.TheVariants as reply
 use Rattle.ax_types.specs.declared.entries.Act.TheVariants as act
 use Rattle.spec_book.specs.Limits.{is_full}
 use Rattle.spec_book.specs.Dict.{bytes_cmp, found, with_entry, without_session, has_session, has_text, with_text}
-use Rattle.spec_book.specs.Resources.{Resource, AMap, AValue, ALong, ALock, AGroup, ASet, AQueue, AMultimap, ATopic, MapItem, MapState, ValueState, LockState, GroupState, Holder, GroupLeader, new_resource, Acted, replied, told_too, tell}
+use Rattle.spec_book.specs.Resources.{Resource, AMap, AValue, ALong, ALock, AGroup, ASet, AQueue, AMultimap, ATopic, MapItem, MapState, ValueState, LockState, GroupState, Holder, GroupLeader, new_resource, Acted, replied, tell}
 use Rattle.spec_book.specs.Scalars.{value_act, long_act, fits_i64}
 use Rattle.spec_book.specs.MapTurn.{map_act, put_item, put_absent, replace_item, remove_item, tell_removed, lasting, living}
 use Rattle.spec_book.specs.Owners.{lock_act, lock_freed, lock_tried, is_holder, has_part, group_act, members_changed, tell_elected, leads}
@@ -163,7 +162,7 @@ group_still : (name : List ℕ) (place session : ℕ) (o : GroupOp) (s : GroupSt
 group_still name place session group_op.Join s h q =
     still_cond IsQuietGroup (has_session s.members session) (replied s reply.Already) _ (h, refl)
     (still_cond IsQuietGroup (is_full s.members) (replied s reply.Full) (members_changed name place (s.members ++ session ∷ []) (event.Joined name session) s)
-     (h, refl) (changed_still name place (s.members ++ session ∷ []) (event.Joined name session) s h))
+    (h, refl) (changed_still name place (s.members ++ session ∷ []) (event.Joined name session) s h))
 group_still name place session group_op.Leave s h q =
     still_cond IsQuietGroup (has_session s.members session) (members_changed name place (without_session s.members session) (event.Left name session) s) (replied s reply.NotMember)
     (changed_still name place (without_session s.members session) (event.Left name session) s h) (h, refl)
@@ -256,7 +255,7 @@ turn_at_still book place time session name o None h k q =
     still_cond IsQuietBook (is_full book) (replied book reply.Full) (at_name book name (resource_act name place time session o (new_resource (op_kind o))))
     (h, refl)
     (named_still book name (resource_act name place time session o (new_resource (op_kind o))) h
-     (resource_still name place time session o (new_resource (op_kind o)) (new_quiet (op_kind o)) q))
+    (resource_still name place time session o (new_resource (op_kind o)) (new_quiet (op_kind o)) q))
 turn_at_still book place time session name o (Some r) h k q =
     named_still book name (resource_act name place time session o r) h (resource_still name place time session o r k q)
 

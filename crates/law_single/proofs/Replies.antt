@@ -1,15 +1,12 @@
 -- The history of a narrow run, along its calls: what stands at the place of each, the book before it, and its reply.
-use Rattle.std.proofs.Common.{◌≡◌, ℕ, zero, suc, ◌+◌, ◌-◌, ◌≤◌, ◌<◌, List, [], ◌∷◌, ◌++◌, Option, Some, None, refl, sym, ap, ◌∙◌, subst, arith, map, length, take, slice_get, append_assoc, length-append, take_at, add-one, option_map}
+use Rattle.std.proofs.Common.{◌≡◌, ℕ, zero, suc, ◌+◌, ◌-◌, List, [], ◌∷◌, ◌++◌, Some, refl, sym, ap, ◌∙◌, arith, map, length, slice_get, append_assoc, length-append, take_at, option_map}
 use Rattle.ax_types.specs.Places.{at_place}
 use Rattle.ax_types.specs.declared.entries.Act.{Act}
 use Rattle.ax_types.specs.declared.entries.Act.TheVariants as act
-use Rattle.ax_types.specs.declared.replies.Reply.{Reply}
-use Rattle.ax_types.specs.declared.replies.Turn.{Turn}
 use Rattle.spec_book.specs.Book.{Book, acted}
 use Rattle.spec_book.specs.History.{History, book_after, book_at, turn_there, turn_of, reply_at}
-use Rattle.spec_claims.specs.Transcript.{Shown}
 use Rattle.spec_single.specs.Form.{Call}
-use Rattle.spec_single.specs.Run.{start_shown, call_shown, calls_shown, call_act, call_acted, run_shown, run_history}
+use Rattle.spec_single.specs.Run.{start_shown, call_shown, calls_shown, call_act, call_acted, run_history}
 use Rattle.law_single.specs.Laws.{call_replied, calls_replied, NarrowCallsAreReplied}
 
 -- the acts of calls
@@ -69,7 +66,7 @@ calls_are_replied h i book (c ∷ cs) f =
 
 -- at the first call
 pub follows_first : (cs : List Call) → Follows (run_history cs) 1 [] cs
-follows_first cs = record { front = (0, act.Nothing) ∷ (0, act.Open 1 1) ∷ []; whole = refl; long = refl; before = refl; }
+follows_first cs = record { front = (0, act.Nothing) ∷ (0, act.Open 1 1) ∷ []; whole = refl; long = refl; before = refl }
 
 pub narrow_calls_reply : NarrowCallsAreReplied
 narrow_calls_reply cs = ap (λ x. start_shown ++ x) (calls_are_replied (run_history cs) 1 [] cs (follows_first cs))
