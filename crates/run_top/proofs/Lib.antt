@@ -1,2 +1,1 @@
 pub mod LongLemmas
-pub mod RunLemmas
