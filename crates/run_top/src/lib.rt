@@ -3,4 +3,5 @@
 
 mod form;
 mod longs;
+mod report;
 mod run;
