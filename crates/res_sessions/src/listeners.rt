@@ -108,6 +108,21 @@ impl Listeners {
         }
         Ok(())
     }
+
+    /// Appends the event for each listener, in ascending order of session, to what is told already. After want of
+    /// memory the list may have some of them.
+    pub fn tell_too(
+        &self,
+        told: &mut List<(u64, Event)>,
+        event: &Event,
+    ) -> Result<(), NoMemory>
+        ensures { OnOk result (told.new ≡ told.old ++ tell self.now event.now) }
+    {
+        for session in self.sessions.iter() {
+            told.push((*session, event.copy()?))?;
+        }
+        Ok(())
+    }
 }
 
 impl Duplicate for Listeners {
