@@ -1,0 +1,7 @@
+//! Reads and writes the language of scripts.
+#![tactic(auto)]
+
+mod steps;
+mod texts;
+
+pub use texts::step_text;
