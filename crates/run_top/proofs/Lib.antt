@@ -1,0 +1,2 @@
+pub mod LongLemmas
+pub mod ReportLemmas

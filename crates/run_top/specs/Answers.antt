@@ -1,0 +1,84 @@
+-- What the program answers: to its words, to its input, and what it writes.
+use Rattle.std.specs.Prelude.{ℕ, ◌+◌, ◌-◌, ◌==◌, ◌&&◌, ◌≡◌, ◌⊎◌, Bool, true, false, nat_eq, if◌then◌else◌, List, [], ◌∷◌, ◌++◌, length, Option, Some, None, Result, Ok, Err}
+use Rattle.std.specs.List.{slice_split}
+use Rattle.ax_types.specs.declared.scripts.Command.{Command}
+use Rattle.ax_types.specs.declared.scripts.Command.TheVariants as command
+use Rattle.ax_types.specs.declared.scripts.Script.{Script}
+use Rattle.ax_types.specs.declared.scripts.RunEnd.TheVariants as run_end
+use Rattle.ax_types.specs.declared.statuses.Why.{Why}
+use Rattle.ax_types.specs.declared.statuses.Why.TheVariants as why
+use Rattle.spec_script.specs.Scripts.{Refusal, is_skipped, read_script_of}
+use Rattle.spec_words.specs.CommandLine.{command_of_words}
+use Rattle.spec_single.specs.Form.{Call, Lines, Calls, NotOfForm, EndsEarly, form_of}
+use Rattle.spec_single.specs.Run.{run_items, run_history}
+use Rattle.spec_report.specs.Report.{report_text}
+
+-- the words that the program takes today: the one command `run`, without a flag
+abbrev pub is_run : Option Command → Bool
+is_run (Some (command.Run false)) = true
+is_run _ = false
+
+abbrev pub is_accepted : List (List ℕ) → Bool
+is_accepted words = is_run (command_of_words words)
+
+-- a form of the grammar that the program does not run yet, at a line
+abbrev pub not_built : ℕ → Refusal
+not_built n = record { line = n; why = why.NotBuilt }
+
+-- the lines of some bytes
+abbrev pub lines : List ℕ → List (List ℕ)
+lines bytes = slice_split (λ b. b == 10) bytes
+
+-- the number of the first line with words, where the first of these lines has this number
+abbrev pub first_words : ℕ → List (List ℕ) → ℕ
+first_words n [] = n
+first_words n (l ∷ ls) = if is_skipped l then first_words (n + 1) ls else n
+
+-- the number of the cluster line
+abbrev pub cluster_line : List ℕ → ℕ
+cluster_line bytes = first_words 1 (lines bytes)
+
+-- a script that was read whole: its calls, or the line that is not of the narrow form
+abbrev pub calls_or_refusal : List ℕ → Lines → Result (List Call) Refusal
+calls_or_refusal bytes (Calls cs) = Ok cs
+calls_or_refusal bytes (NotOfForm n) = Err (not_built n)
+calls_or_refusal bytes EndsEarly = Err (not_built (length (lines bytes)))
+
+-- whether the cluster has one node and one client
+abbrev pub is_single : Script → Bool
+is_single s = nat_eq s.nodes 1 && nat_eq s.clients 1
+
+abbrev pub narrow_of : List ℕ → Script → Result (List Call) Refusal
+narrow_of bytes s = if is_single s then calls_or_refusal bytes (form_of s.lines) else Err (not_built (cluster_line bytes))
+
+-- the refusal, but for an earlier line that is not of the narrow form
+abbrev pub earlier_or : Refusal → Lines → Refusal
+earlier_or r (NotOfForm n) = not_built n
+earlier_or r (Calls cs) = r
+earlier_or r EndsEarly = r
+
+-- a script of which a line was refused, by what its lines before are read as
+abbrev pub refused_after : List ℕ → Refusal → Result Script Refusal → Refusal
+refused_after bytes r (Err earlier) = r
+refused_after bytes r (Ok s) = if is_single s then earlier_or r (form_of s.lines) else not_built (cluster_line bytes)
+
+-- the bytes before a line: so many lines with their newlines
+abbrev pub bytes_before : ℕ → List (List ℕ) → List ℕ
+bytes_before k [] = []
+bytes_before k (l ∷ ls) = if nat_eq k 0 then [] else l ++ (10 ∷ bytes_before (k - 1) ls)
+
+-- the first line that is refused, of a script whose first line outside the grammar or the limits is this
+abbrev pub refused : List ℕ → Refusal → Refusal
+refused bytes r = refused_after bytes r (read_script_of false (bytes_before (r.line - 1) (lines bytes)))
+
+-- the calls of the narrow script that the bytes are, or the first line that is refused and why
+abbrev pub judged_as : List ℕ → Result Script Refusal → Result (List Call) Refusal
+judged_as bytes (Ok s) = narrow_of bytes s
+judged_as bytes (Err r) = Err (refused bytes r)
+
+abbrev pub judged : List ℕ → Result (List Call) Refusal
+judged bytes = judged_as bytes (read_script_of false bytes)
+
+-- the report of the run of these calls
+abbrev pub run_report : List Call → List ℕ
+run_report cs = report_text (run_items cs) (run_history cs) run_end.Done
