@@ -13,5 +13,8 @@ pub use calls::{call_text, op_text, query_text};
 pub use items::{item_line, item_text, items_text, waiting_line, waiting_text};
 pub use json::json_text;
 pub use replies::{event_text, reply_text};
-pub use report::{act_line, caller_text, end_text, end_word, feed_text, history_text};
+pub use report::{act_line, caller_text, end_text, end_word, feed_text, head_text, history_text};
 pub use waiting::waiting_of;
+
+#[cfg(test)]
+mod tests;

@@ -8,6 +8,13 @@ use crate::replies::reply_text;
 use ax_types::{Act, ClientId, Event, NoMemory, Outcome, Report, RunEnd, WatchKind};
 use std::alloc::Global;
 
+/// The first line, with its newline.
+pub fn head_text() -> &'static str
+    ensures { result.now ≡ spec.head_text }
+{
+    "report 1\n"
+}
+
 fn act_text(alloc: Global, act: &Act) -> Result<String, NoMemory>
     ensures { IfOk result (λ t. string_bytes t ≡ spec.act_text act.now) }
 {

@@ -1,0 +1,146 @@
+use super::*;
+use ax_types::{
+    Act, ClientId, End, Event, Item, Key, Level, Life, List, MapOp, Name, NodeId, Op, Outcome,
+    PayloadKind, Reply, Report, RunEnd, SkipReason, Text, WatchKind, WindowCall,
+};
+use std::alloc::Global;
+use std::test::Fail;
+
+fn name(alloc: Global, bytes: &[u8]) -> Result<Name, Fail> {
+    Ok(Name::read(alloc, bytes)?.ok_or("no name")?)
+}
+
+fn key(alloc: Global, bytes: &[u8]) -> Result<Key, Fail> {
+    Ok(Key::read(alloc, bytes)?.ok_or("no key")?)
+}
+
+fn text(alloc: Global, bytes: &[u8]) -> Result<Text, Fail> {
+    Ok(Text::read(alloc, bytes)?.ok_or("no text")?)
+}
+
+fn put_for(alloc: Global) -> Result<Op, Fail> {
+    let key = key(alloc, b"a")?;
+    let text = text(alloc, b"\"1\\")?;
+    let life = Life::new(500).ok_or("no life")?;
+    Ok(Op::Map(MapOp::PutFor { key, text, life }))
+}
+
+fn called(alloc: Global) -> Result<Item, Fail> {
+    let name = name(alloc, b"m")?;
+    let call = WindowCall::Command {
+        name,
+        op: put_for(alloc)?,
+    };
+    Ok(Item::Called {
+        session: 2,
+        number: 1,
+        call,
+    })
+}
+
+#[test]
+fn items_have_lines(rt: HostRuntime) -> Result<(), Fail> {
+    let alloc = rt.alloc();
+    let node = NodeId::new(9).ok_or("no node")?;
+    let client = ClientId::new(16).ok_or("no client")?;
+    let reach = Item::Reach {
+        node,
+        term: 2,
+        arrival: 3,
+        session: 4,
+        number: 5,
+    };
+    assert_eq!(rt; item_text(alloc, &reach)?.as_str(), "reach 9 2.3 4 5\n");
+    let pending = Item::Pending {
+        number: 6,
+        from: End::Client(client),
+        to: End::Node(node),
+        kind: PayloadKind::Keep,
+    };
+    assert_eq!(rt;
+        item_text(alloc, &pending)?.as_str(),
+        "pending 6 c16 n9 Keep\n"
+    );
+    let skip = Item::Skip {
+        reason: SkipReason::Busy { unanswered: 1 },
+    };
+    assert_eq!(rt; item_text(alloc, &skip)?.as_str(), "skip busy 1\n");
+    Ok(())
+}
+
+#[test]
+fn a_history_has_lines(rt: HostRuntime) -> Result<(), Fail> {
+    let alloc = rt.alloc();
+    let put = Act::Do {
+        session: 2,
+        name: name(alloc, b"m")?,
+        op: put_for(alloc)?,
+    };
+    let history = [(0, Act::Nothing), (499, put)];
+    assert_eq!(rt;
+        history_text(alloc, &history)?.as_str(),
+        "history 2\n1 0 nothing\n2 499 do 2 map m put_for a \"1\\ 500\n"
+    );
+    assert_eq!(rt;
+        end_text(alloc, RunEnd::StepLimit { line: 9 })?.as_str(),
+        "end step-limit 9\n"
+    );
+    Ok(())
+}
+
+#[test]
+fn a_report_is_written_in_json(rt: HostRuntime) -> Result<(), Fail> {
+    let alloc = rt.alloc();
+    let mut items = List::new(alloc);
+    items.push(called(alloc)?)?;
+    let waiting = waiting_of(alloc, items.as_slice())?;
+    assert_eq!(rt;
+        waiting_text(alloc, waiting.as_slice())?.as_str(),
+        "waiting 2 1\n"
+    );
+    let report = Report {
+        items,
+        history: List::new(alloc),
+        waiting,
+        end: RunEnd::Done,
+    };
+    assert_eq!(rt;
+        json_text(alloc, &report)?.as_str(),
+        "{\"end\":\"done\",\"history\":[],\"items\":[\"called 2 1 call map m put_for a \\\"1\\\\ 500\"],\"report\":1,\"waiting\":[\"waiting 2 1\"]}\n"
+    );
+    Ok(())
+}
+
+#[test]
+fn a_caller_has_lines(rt: HostRuntime) -> Result<(), Fail> {
+    let read = Outcome::Read {
+        level: Level::Lin,
+        place: 3,
+        reach: Some((2, 1)),
+        reply: Reply::Holder {
+            session: 2,
+            fence: 3,
+        },
+    };
+    assert_eq!(rt;
+        caller_text(rt.alloc(), 1, 7, &read)?.as_str(),
+        "caller 1 7 read lin 3 2.1 holder 2 3\n"
+    );
+    Ok(())
+}
+
+#[test]
+fn a_feed_has_lines(rt: HostRuntime) -> Result<(), Fail> {
+    let alloc = rt.alloc();
+    let client = ClientId::new(2).ok_or("no client")?;
+    let event = Event::Elected {
+        name: name(alloc, b"g")?,
+        session: 2,
+        term: 6,
+    };
+    assert_eq!(rt;
+        feed_text(alloc, 1, client, WatchKind::All, 2, 6, &event)?.as_str(),
+        "feed 1 2 all 2 6 elected g 2 6\n"
+    );
+    Ok(())
+}
