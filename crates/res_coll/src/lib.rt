@@ -1,14 +1,20 @@
-//! Sets, queues and topics.
+//! Sets, queues, multimaps and topics.
 #![tactic(auto)]
 
 ghost use Rattle.std.specs.Prelude.{◌≡◌};
 ghost use Rattle.spec_book.specs.Collections.{truth as truth_reply};
 
+mod multimap;
+mod pairs;
 mod queue;
 mod set;
+#[cfg(test)]
+mod tests;
 mod topic;
 
 use ax_types::Reply;
+pub use multimap::MultimapBox;
+pub use pairs::MAX_PAIRS;
 pub use queue::QueueBox;
 pub use set::SetBox;
 pub use topic::TopicBox;
