@@ -1,0 +1,6 @@
+pub mod Splits
+pub mod Numbers
+pub mod Parts
+pub mod Operations
+pub mod Queries
+pub mod Steps

@@ -1,0 +1,10 @@
+//! Scripts are read as they are written.
+#![tactic(auto)]
+
+ghost use Rattle.law_script.specs.Laws.{StepIsReadBack};
+
+/// The text of a step is read as that step, in a cluster that has its nodes and clients, where its numbers are within their limits
+/// and the ends of a link differ and are not both clients.
+pub fn step_is_read_back()
+    ensures { StepIsReadBack }
+{}
