@@ -43,12 +43,17 @@ new_draft nodes clients timeout = record {
   totals = replicate 16 0;
 }
 
+-- by the three words of a cluster line that are always the same
+abbrev pub is_cluster_line : Word → Word → Word → Bool
+is_cluster_line a b c = bytes_eq a (codes "cluster") && (bytes_eq b (codes "clients") && bytes_eq c (codes "timeout"))
+
+-- by its numbers of nodes and clients and its timeout
+abbrev pub sized_draft : Word → Word → Word → Option Draft
+sized_draft n m t = option_and_then (λ nodes. both (new_draft nodes) (client_of 16 m) (timeout_of t)) (node_of 9 n)
+
 -- `cluster N clients M timeout T`
 abbrev pub cluster_of : List Word → Option Draft
-cluster_of (a ∷ n ∷ b ∷ m ∷ c ∷ t ∷ []) =
-    if bytes_eq a (codes "cluster") && (bytes_eq b (codes "clients") && bytes_eq c (codes "timeout"))
-    then option_and_then (λ nodes. both (new_draft nodes) (client_of 16 m) (timeout_of t)) (node_of 9 n)
-    else None
+cluster_of (a ∷ n ∷ b ∷ m ∷ c ∷ t ∷ []) = if is_cluster_line a b c then sized_draft n m t else None
 cluster_of _ = None
 
 -- a line after the cluster line that `run` takes: a step, `flush` or `settle K`
@@ -183,16 +188,16 @@ abbrev pub or_refused : {A : Type 0} → Why → Option A → Result A Why
 or_refused reason None = Err reason
 or_refused reason (Some x) = Ok x
 
+abbrev pub after_cluster : Place → List ℕ → Option Draft → Result (Option Draft) Why
+after_cluster p l None = Err why.Cluster
+after_cluster p l (Some d) = unless_refused (in_limits p.is_past l) (Ok (Some (at_line p.number d)))
+
 -- after a line where the cluster line is due
 abbrev pub after_first : Place → List ℕ → Result (Option Draft) Why
 after_first p l =
     if is_skipped l then
     (if p.is_last then Err why.Cluster else unless_refused (in_limits p.is_past l) (Ok None))
-    else cluster_read p l (cluster_of (words_of l))
-  where
-    cluster_read : Place → List ℕ → Option Draft → Result (Option Draft) Why
-    cluster_read p l None = Err why.Cluster
-    cluster_read p l (Some d) = unless_refused (in_limits p.is_past l) (Ok (Some (at_line p.number d)))
+    else after_cluster p l (cluster_of (words_of l))
 
 -- after a later line
 abbrev pub after_later : Place → List ℕ → Draft → Result (Option Draft) Why
