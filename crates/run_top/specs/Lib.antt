@@ -5,4 +5,3 @@ pub mod Longs
 pub mod Outcomes
 pub mod Runs
 pub mod Statuses
-pub mod Stub

@@ -7,8 +7,8 @@ use crate::form::{Form, form_of};
 use crate::lines::{cluster_line, first_lines, line_count};
 use crate::refusals::Refused;
 use crate::run::LongCall;
-use crate::stub::{ScriptRefused, read_script};
 use ax_types::{NoMemory, Script, Why};
+use script_text::{ScriptRefused, read_script};
 use std::alloc::Global;
 
 /// A form of the grammar that the program does not run yet, at a line.

@@ -15,7 +15,6 @@ mod reading;
 mod refusals;
 mod report;
 mod run;
-mod stub;
 
 use crate::reading::report;
 use ax_io::{Sink, Source};
