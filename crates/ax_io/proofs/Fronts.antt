@@ -1,5 +1,5 @@
 -- Fronts of what is written or read piece by piece.
-use Rattle.std.proofs.Common.{◌≡◌, ◌⊎◌, inl, inr, ℕ, ◌+◌, ◌<◌, List, [], ◌∷◌, ◌++◌, length, take, drop, get_or, min, ◌≤◌, IfSome, length-take, Option, None, Some, refl, sym, ap, ◌∙◌, subst, rules, arith, append_assoc, append-nil}
+use Rattle.std.proofs.Common.{◌≡◌, ◌⊎◌, inl, inr, ℕ, ◌+◌, ◌<◌, List, [], ◌++◌, length, take, drop, get_or, min, ◌≤◌, IfSome, length-take, Option, None, Some, refl, sym, ap, ◌∙◌, subst, arith, append_assoc, append-nil}
 use Rattle.std.specs.List.{flat_map}
 use Rattle.std.proofs.lemmas.List.{take-append-drop, drop_more, take_all, take_at}
 use Rattle.std.proofs.lemmas.List.Concat.{flat_map-append}

@@ -1,8 +1,8 @@
 -- What a read from memory moves.
-use Rattle.std.proofs.Common.{◌≡◌, ℕ, ◌+◌, ◌-◌, ◌≤◌, ◌<◌, min, List, [], ◌∷◌, ◌++◌, length, take, drop, Option, None, Some, OnSome, IfSome, refl, sym, ap, ◌∙◌, arith, rules, append_assoc}
+use Rattle.std.proofs.Common.{◌≡◌, ℕ, ◌+◌, ◌-◌, min, List, ◌++◌, length, take, drop, Some, sym, ap, ◌∙◌, arith}
 use Rattle.std.proofs.lemmas.Grind.{common_steps}
-use Rattle.std.proofs.lemmas.List.{take-append-drop, drop-drop, take_at, drop_at, length-take, nil_from_length, length-drop}
-use Rattle.ax_io.specs.Content.{prepend_told, Moves}
+use Rattle.std.proofs.lemmas.List.{take-append-drop, drop_at, nil_from_length}
+use Rattle.ax_io.specs.Content.{Moves}
 
 -- a front of what is left, put into the first places of a buffer
 pub Moves-front : (bytes buffer moved now : List ℕ) (next n : ℕ) → n ≡ min (length bytes - next) (length buffer) → moved ≡ take n (drop next bytes) → now ≡ drop (next + n) bytes → Moves (Some (drop next bytes)) (Some now) n buffer (moved ++ drop n buffer)

@@ -2,3 +2,4 @@ pub mod Count
 pub mod Content
 pub mod Memory
 pub mod ReadError
+pub mod Adapted

@@ -1,5 +1,5 @@
 -- The source and the sink that live in memory, and what each of their calls does.
-use Rattle.std.specs.Prelude.{◌≡◌, ℕ, ◌-◌, min, Bool, ◌==◌, if◌then◌else◌, List, [], ◌++◌, length, take, drop, Option, None, find, unwrap_or}
+use Rattle.std.specs.Prelude.{ℕ, Bool, ◌==◌, if◌then◌else◌, List, ◌++◌, length, take, drop, Option, find}
 use Rattle.std.specs.List.{list_any}
 use Rattle.std.specs.Option.{option_map}
 use Rattle.ax_io.specs.Count.{one_more}

@@ -1,6 +1,6 @@
-ghost use Rattle.std.specs.Prelude.{◌≡◌, ◌⊎◌, ℕ, min, ◌++◌, [], length, take, Some, OnOk, OnErr, IfOk, IsErr, IsNone, IsTrue, ◌↔◌, ◌≤◌, Result, unwrap_or};
-ghost use Rattle.ax_io.specs.Count.{Counted, one_more};
-ghost use Rattle.ax_io.specs.Content.{append_told, prepend_told, Moves, MovesNothing, TakesFront};
+ghost use Rattle.std.specs.Prelude.{◌≡◌, ◌⊎◌, min, [], length, take, Some, OnOk, OnErr, IfOk, IsErr, IsNone, IsTrue, ◌↔◌, unwrap_or};
+ghost use Rattle.ax_io.specs.Count.{Counted};
+ghost use Rattle.ax_io.specs.Content.{append_told, Moves, MovesNothing, TakesFront};
 
 use super::{Failed, Faults, Sink, Source};
 use ax_types::List;

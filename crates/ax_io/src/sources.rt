@@ -1,4 +1,4 @@
-ghost use Rattle.std.specs.Prelude.{◌≡◌, ℕ, ◌+◌, ◌-◌, ◌<◌, ◌≤◌, min, List, length, take, [], ◌++◌, Option, OnOk, OnErr, IfOk, IsErrOf, IfSome, Result, vec_len};
+ghost use Rattle.std.specs.Prelude.{◌≡◌, ℕ, ◌+◌, ◌<◌, ◌≤◌, List, length, [], Option, OnOk, OnErr, IfOk, IsErrOf, IfSome, vec_len};
 ghost use Rattle.ax_io.specs.Count.{Counted, Rose};
 ghost use Rattle.ax_io.specs.Content.{prepend_told, Moves, MovesNothing, ReadsFirst, LosesFront};
 ghost use Rattle.ax_io.specs.declared.sources.ReadError.TheVariants.{Failed as ReadFailed, NoMemory as WithoutMemory};

@@ -1,2 +1,4 @@
 pub mod Index
 pub mod Passed
+pub mod Ended
+pub mod First

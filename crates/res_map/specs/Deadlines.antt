@@ -1,12 +1,14 @@
 -- When the lives of a map's entries end, and the index that has the entries in the order of these times.
-use Rattle.std.specs.Prelude.{◌≡◌, ℕ, ◌+◌, min, Bool, false, cond, nat_le, nat_eq, ◌&&◌, if◌then◌else◌, List, [], ◌∷◌, Option, Some, None, fold}
+use Rattle.std.specs.Prelude.{◌≡◌, ℕ, ◌+◌, min, Bool, false, cond, nat_le, nat_eq, ◌&&◌, if◌then◌else◌, List, [], ◌∷◌, Option, Some, None, fold, filter}
 use Rattle.std.specs.declared.cmp.Ordering.{Ordering}
 use Rattle.std.specs.Ordering.{nat_cmp, then_cmp, on}
 use Rattle.std.specs.Option.{option_eq}
 use Rattle.std.specs.List.{list_any}
 use Rattle.std.specs.BTreeMap.{is_at}
+use Rattle.std.specs.Map.{keys_of}
 use Rattle.spec_book.specs.Dict.{bytes_cmp, found, without_entry}
 use Rattle.spec_book.specs.Resources.{Span, MapItem}
+use Rattle.spec_book.specs.MapTurn.{life_ended}
 
 -- the log time at which a life ends, where there is one
 abbrev pub end_of : Option Span → Option ℕ
@@ -58,6 +60,10 @@ has_passed time deadlines key = list_any (λ d. nat_le d.0 time && is_at (bytes_
 abbrev pub first_time : List (ℕ × List ℕ) → Option ℕ
 first_time [] = None
 first_time (d ∷ deadlines) = Some d.0
+
+-- the keys of the entries whose life ends at or before a time
+abbrev pub ended_keys : ℕ → List (List ℕ × MapItem) → List (List ℕ)
+ended_keys time entries = keys_of (filter (λ e. life_ended time e.1.life) entries)
 
 -- the entries without the keys
 abbrev pub without_keys : List (List ℕ × MapItem) → List (List ℕ) → List (List ℕ × MapItem)

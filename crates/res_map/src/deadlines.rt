@@ -1,5 +1,6 @@
-ghost use Rattle.std.specs.Prelude.{◌≡◌, ℕ, List as Items, [], true, false, IfOk, OnOk, OnErr};
-ghost use Rattle.std.specs.List.{list_any};
+ghost use Rattle.std.specs.Prelude.{◌≡◌, ℕ, List as Items, [], true, false, ◌≤◌, IfOk, IfSome, OnOk, OnErr};
+ghost use Rattle.std.specs.List.{list_any, All};
+ghost use Rattle.std.specs.List.Sorted.{IsStrictlySortedBy};
 ghost use Rattle.std.specs.BTreeMap.{is_at};
 ghost use Rattle.spec_book.specs.Dict.{bytes_cmp};
 ghost use Rattle.res_map.specs.Deadlines.{SetsDeadline, has_passed, first_time};
@@ -65,7 +66,8 @@ impl Deadlines {
 
     /// The earliest time.
     pub fn first(&self) -> Option<u128>
-        ensures { result ≡ first_time self.now }
+        ensures time { result ≡ first_time self.now }
+        ensures least { IfSome result (λ time. All (λ d. time ≤ d.0) self.now) }
     {
         match self.pairs.first() {
             Some((end, _)) => Some(*end),
@@ -75,7 +77,8 @@ impl Deadlines {
 
     /// The keys whose times are at most this one.
     pub fn passed(&self, time: u64) -> Result<BTreeSet<Key>, NoMemory>
-        ensures { IfOk result (λ keys. (key : Items ℕ) → list_any (is_at (bytes_cmp key)) keys.keys ≡ has_passed time self.now key) }
+        ensures keys { IfOk result (λ keys. (key : Items ℕ) → list_any (is_at (bytes_cmp key)) keys.keys ≡ has_passed time self.now key) }
+        ensures ascending { IfOk result (λ keys. IsStrictlySortedBy bytes_cmp keys.keys) }
     {
         let mut keys = BTreeSet::new(self.alloc);
         for (end, key) in &self.pairs {

@@ -5,12 +5,13 @@ ghost use Rattle.std.specs.List.Sorted.{IsStrictlySortedBy};
 ghost use Rattle.std.specs.Map.{keys_of};
 ghost use Rattle.spec_book.specs.Dict.{bytes_cmp, found, with_entry, without_entry};
 ghost use Rattle.spec_book.specs.MapTurn.{life_ended};
-ghost use Rattle.res_map.specs.Deadlines.{item_end, first_end, replaced_end};
+ghost use Rattle.res_map.specs.Deadlines.{item_end, first_end, replaced_end, ended_keys, without_keys};
 
 use crate::deadlines::Deadlines;
 use crate::items::MapItem;
 use ax_types::{Duplicate, Key, NoMemory};
 use std::alloc::Global;
+use std::collections::btree_map::Keys;
 use std::collections::{BTreeMap, BTreeSet};
 use std::marker::Model;
 
@@ -24,13 +25,16 @@ pub struct Entries {
 impl Model for Entries {
     ghost use Rattle.std.specs.Prelude.{ℕ, List as Items};
     ghost use Rattle.spec_book.specs.Resources.{MapItem as ItemValue};
+    ghost use Rattle.std.specs.List.Sorted.{IsStrictlySortedBy};
+    ghost use Rattle.std.specs.Map.{keys_of};
+    ghost use Rattle.spec_book.specs.Dict.{bytes_cmp};
     ghost use Rattle.res_map.specs.Deadlines.{IsIndexed};
 
     ghost Value = { Items (Items ℕ × ItemValue) };
 
     ghost view = { λ a. a.items.entries };
 
-    ghost invariant = { λ a. IsIndexed a.items.entries a.deadlines };
+    ghost invariant = { λ a. IsStrictlySortedBy bytes_cmp (keys_of a.items.entries) × IsIndexed a.items.entries a.deadlines };
 }
 
 impl Entries {
@@ -100,12 +104,52 @@ impl Entries {
         self.deadlines.forget(end, key);
     }
 
+    /// Takes the entries of the keys out.
+    pub fn remove_all(&mut self, keys: BTreeSet<Key>)
+        ensures { self.new ≡ without_keys self.old keys.keys }
+    {
+        for key in keys {
+            self.remove(key);
+        }
+    }
+
     /// Takes all entries out.
     pub fn clear(&mut self)
         ensures { self.new ≡ [] }
     {
         self.items.clear();
         self.deadlines.clear();
+    }
+
+    /// The keys of the entries whose life ends at or before a log time.
+    pub fn ended(&self, time: u64) -> Result<BTreeSet<Key>, NoMemory>
+        ensures keys { IfOk result (λ keys. keys.keys ≡ ended_keys time self.now) }
+        ensures ascending { IsStrictlySortedBy bytes_cmp (keys_of self.now) }
+    {
+        self.deadlines.passed(time)
+    }
+
+    /// The first log time at which the life of an entry ends.
+    pub fn first_end(&self) -> Option<u128>
+        ensures { result ≡ first_end self.now }
+    {
+        self.deadlines.first()
+    }
+
+    /// The keys, in ascending order.
+    pub fn keys(&self) -> Keys<'_, Key, MapItem>
+        ensures { result ≡ keys_of self.now }
+    {
+        self.items.keys()
+    }
+}
+
+impl Duplicate for Entries {
+    fn copy(&self) -> Result<Entries, NoMemory> {
+        Ok(Entries {
+            items: self.items.clone()?,
+            deadlines: self.deadlines.copy()?,
+        })
     }
 }
 

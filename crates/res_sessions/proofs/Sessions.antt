@@ -1,11 +1,12 @@
 -- Lists of sessions, each once: what an append and a removal leave of them.
-use Rattle.std.proofs.Common.{◌≡◌, ℕ, suc, ◌+◌, ◌<◌, ◌≤◌, not, Bool, true, false, cond, ◌||◌, nat_lt, List, [], ◌∷◌, ◌++◌, length, Option, Some, None, position, refl, sym, ap, ◌∙◌, subst, arith}
+use Rattle.std.proofs.Common.{◌≡◌, ℕ, suc, ◌+◌, ◌<◌, ◌≤◌, not, Bool, true, false, cond, ◌||◌, nat_lt, List, [], ◌∷◌, ◌++◌, length, Option, Some, None, slice_get, position, refl, sym, ap, ◌∙◌, subst, arith}
 use Rattle.std.proofs.lemmas.Bool.{false≢true, ltb-true, ltb-false}
 use Rattle.std.proofs.lemmas.Bool.Decides.{nat_tests}
 use Rattle.std.specs.List.{list_any, position_or_len, remove}
 use Rattle.std.proofs.lemmas.List.Quantifiers.{position-Some}
 use Rattle.std.specs.Prelude.{◌↔◌, IsSome, OnSome}
 use Rattle.std.specs.Ordering.{nat_cmp}
+use Rattle.std.specs.Bool.{OnFalse}
 use Rattle.std.specs.BTreeMap.{is_at}
 use Rattle.std.specs.Set.{remove_key}
 use Rattle.spec_book.specs.Dict.{has_session, without_session}
@@ -59,6 +60,39 @@ remove_step x xs s q ys true true e f once rest = ap (has_session xs) ((three_te
 remove_step x xs s q ys true false e f once rest = grind (arith, (three_tests s x q).1 e f)
 remove_step x xs s q ys false true e f once rest = grind (arith, (three_tests s x q).2 e f)
 remove_step x xs s q ys false false e f once rest = grind arith
+
+-- a removal adds no session
+pub absent_after_removal : (xs : List ℕ) (s q : ℕ) → has_session xs q ≡ false → has_session (without_session xs s) q ≡ false
+absent_after_removal [] s q absent = refl
+absent_after_removal (x ∷ xs) s q absent =
+    step (is_at (nat_cmp s) x) (is_at (nat_cmp q) x) refl (has_session xs q) refl absent (absent_after_removal xs s q)
+  where
+    step : (b here : Bool) → is_at (nat_cmp q) x ≡ here → (there : Bool) → has_session xs q ≡ there → (here || there) ≡ false
+        → (has_session xs q ≡ false → has_session (without_session xs s) q ≡ false)
+        → has_session (cond b xs (x ∷ without_session xs s)) q ≡ false
+    step b true e there f h rest = absurd (false≢true (sym h))
+    step true false e there f h rest = f ∙ h
+    step false false e there f h rest = rw e (rest (f ∙ h))
+
+-- the first session after a removal: the first before it, or the second where the first is the one that goes
+pub first_of_none : (xs : List ℕ) (s : ℕ) (r : Option ℕ) → r ≡ slice_get xs 0 → r ≡ None → None ≡ slice_get (without_session xs s) 0
+first_of_none [] s r at is = refl
+first_of_none (x ∷ xs) s r at is = absurd (cc)
+
+pub first_of_others : (xs : List ℕ) (s x : ℕ) (r : Option ℕ) → r ≡ slice_get xs 0 → r ≡ Some x → is_at (nat_cmp s) x ≡ false
+    → Some x ≡ slice_get (without_session xs s) 0
+first_of_others [] s x r at is other = absurd (cc)
+first_of_others (y ∷ xs) s x r at is other =
+    let same : x ≡ y = cc in
+    let e : is_at (nat_cmp s) y ≡ false = rw (← same) other in
+    rw e (ap (λ (n : ℕ). Some n) same)
+
+pub first_of_rest : (xs : List ℕ) (s x : ℕ) (r second : Option ℕ) → r ≡ slice_get xs 0 → r ≡ Some x → is_at (nat_cmp s) x ≡ true
+    → second ≡ slice_get xs 1 → second ≡ slice_get (without_session xs s) 0
+first_of_rest [] s x r second at is same next = absurd (cc)
+first_of_rest (y ∷ xs) s x r second at is same next =
+    let e : is_at (nat_cmp s) y ≡ true = ap (is_at (nat_cmp s)) (cc) ∙ same in
+    rw e next
 
 -- of sessions that stand once each, without one of them
 pub has_session-remove_key : (xs : List ℕ) (s q : ℕ) → EachOnce xs
@@ -140,6 +174,11 @@ gone_by_place xs ys s i r None at is variant after =
     none_gone : IsSome {T = ℕ} None → ⊥
     none_gone h = grind arith
 gone_by_place xs ys s i r (Some x) at is variant after = after ∙ position-removes (is_at (nat_cmp s)) xs i (sym at ∙ is)
+
+-- nothing goes where the session is not found
+pub unchanged_unless_found : (xs ys : List ℕ) (s : ℕ) (r : Bool) → r ≡ has_session xs s → ys ≡ without_session xs s → OnFalse r (ys ≡ xs)
+unchanged_unless_found xs ys s true found after = tt
+unchanged_unless_found xs ys s false found after = after ∙ remove_key-absent (is_at (nat_cmp s)) xs (sym found)
 
 -- a queue with one more session, and the index with it
 pub IsIndexed-push : (index queue after : List ℕ) (s : ℕ) → IsIndexed index queue → has_session queue s ≡ false

@@ -1,4 +1,5 @@
-ghost use Rattle.std.specs.Prelude.{◌≡◌, ℕ, ◌<◌, ◌≤◌, ◌^◌, List as Items, [], length, IfOk, OnOk, OnErr, IsTrue, ◌↔◌};
+ghost use Rattle.std.specs.Prelude.{◌≡◌, ℕ, ◌<◌, ◌≤◌, ◌^◌, List as Items, [], ◌++◌, length, IfOk, OnOk, OnErr, IsTrue, ◌↔◌};
+ghost use Rattle.std.specs.Bool.{OnFalse};
 ghost use Rattle.std.specs.Ordering.{nat_cmp};
 ghost use Rattle.std.specs.List.Sorted.{IsStrictlySortedBy};
 ghost use Rattle.spec_book.specs.Dict.{has_session, without_session};
@@ -83,6 +84,7 @@ impl Listeners {
     pub fn unlisten(&mut self, session: u64) -> bool
         ensures listened { result ≡ has_session self.old session }
         ensures after { self.new ≡ without_session self.old session }
+        ensures unchanged { OnFalse result (self.new ≡ self.old) }
     {
         self.sessions.remove(&session)
     }
@@ -92,10 +94,34 @@ impl Listeners {
         ensures { IfOk result (λ told. told ≡ tell self.now event.now) }
     {
         let mut told = List::with_capacity(self.alloc, self.sessions.len())?;
+        self.tell_too(event, &mut told)?;
+        Ok(told)
+    }
+
+    /// The event for each listener, in ascending order of session, after what is told already. After want of memory that
+    /// list is spent.
+    pub fn tell_too(&self, event: &Event, told: &mut List<(u64, Event)>) -> Result<(), NoMemory>
+        ensures { OnOk result (told.new ≡ told.old ++ tell self.now event.now) }
+    {
         for session in self.sessions.iter() {
             told.push((*session, event.copy()?))?;
         }
-        Ok(told)
+        Ok(())
+    }
+
+    /// Appends the event for each listener, in ascending order of session, to what is told already. After want of
+    /// memory the list may have some of them.
+    pub fn tell_too(
+        &self,
+        told: &mut List<(u64, Event)>,
+        event: &Event,
+    ) -> Result<(), NoMemory>
+        ensures { OnOk result (told.new ≡ told.old ++ tell self.now event.now) }
+    {
+        for session in self.sessions.iter() {
+            told.push((*session, event.copy()?))?;
+        }
+        Ok(())
     }
 }
 

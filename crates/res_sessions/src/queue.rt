@@ -1,4 +1,5 @@
-ghost use Rattle.std.specs.Prelude.{◌≡◌, ℕ, ◌<◌, ◌^◌, false, List as Items, [], ◌∷◌, ◌++◌, length, option_to_list, position, slice_get, IfOk, OnOk, OnErr, IfSome, IsTrue, ◌↔◌};
+ghost use Rattle.std.specs.Prelude.{◌≡◌, ℕ, ◌<◌, ◌^◌, false, List as Items, [], ◌∷◌, ◌++◌, length, position, MatchOption, slice_get, IfOk, OnOk, OnErr, IfSome, IsTrue, ◌↔◌};
+ghost use Rattle.std.specs.Bool.{OnFalse};
 ghost use Rattle.std.specs.Ordering.{nat_cmp};
 ghost use Rattle.std.specs.BTreeMap.{is_at};
 ghost use Rattle.spec_book.specs.Dict.{has_session, without_session};
@@ -67,7 +68,30 @@ impl SessionQueue {
     pub fn first(&self) -> Option<u64>
         ensures { result ≡ slice_get self.now 0 }
     {
-        self.sessions.front().copied()
+        self.at(0)
+    }
+
+    /// The session that came first among the others than this one.
+    pub fn first_without(&self, session: u64) -> Option<u64>
+        ensures { result ≡ slice_get (without_session self.now session) 0 }
+    {
+        match self.at(0) {
+            None => None,
+            Some(first) => {
+                if session.cmp(&first).is_eq() {
+                    self.at(1)
+                } else {
+                    Some(first)
+                }
+            }
+        }
+    }
+
+    /// The session before which `before` others came.
+    fn at(&self, before: usize) -> Option<u64>
+        ensures { result ≡ slice_get self.now before }
+    {
+        self.sessions.get(before).copied()
     }
 
     /// The session comes last, where it is none of them. The sessions are unchanged after want of memory.
@@ -89,7 +113,7 @@ impl SessionQueue {
 
     /// Takes the session that came first.
     pub fn pop_first(&mut self) -> Option<u64>
-        ensures first { self.old ≡ option_to_list result ++ self.new }
+        ensures first { MatchOption result ((self.old ≡ []) × (self.new ≡ [])) (λ s. self.old ≡ s ∷ self.new) }
         ensures gone { IfSome result (λ s. has_session self.new s ≡ false) }
     {
         let first = self.sessions.pop_front()?;
@@ -101,6 +125,7 @@ impl SessionQueue {
     pub fn remove(&mut self, session: u64) -> bool
         ensures found { result ≡ has_session self.old session }
         ensures after { self.new ≡ without_session self.old session }
+        ensures unchanged { OnFalse result (self.new ≡ self.old) }
     {
         match self.place_of(session) {
             None => false,

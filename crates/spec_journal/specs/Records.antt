@@ -1,8 +1,9 @@
 -- The records of a journal: what they say, how they are spelled, and how they are read.
-use Rattle.std.specs.Prelude.{ℕ, Bool, List, [], ◌∷◌, ◌++◌, ◌+◌, Option, None, Some, Ok, Err, nat_eq, if◌then◌else◌}
+use Rattle.std.specs.Prelude.{◌≡◌, ◌≤◌, ℕ, Bool, true, false, List, [], ◌∷◌, ◌++◌, ◌+◌, Option, None, Some, Ok, Err, nat_eq, if◌then◌else◌}
 use Rattle.ax_types.specs.declared.entries.Entry.{Entry}
 use Rattle.ax_types.specs.declared.ids.TheConstants.{MAX_NODES}
 use Rattle.spec_wire.specs.Numbers.{u64_bytes}
+use Rattle.spec_wire.specs.Ranges.{IsNumber, FitsEntry}
 use Rattle.spec_wire.specs.Spelling.{entry_bytes}
 use Rattle.spec_reading.specs.Reading.{Reading, ◌>>=◌, Wrong, byte_at, small_at, u64_at, within_at, one_field, two_fields}
 use Rattle.spec_reading.specs.Packets.{entry_at}
@@ -28,6 +29,18 @@ record_bytes (Cut last) = 0x12 ∷ u64_bytes last
 record_bytes (Plain entry) = 0x13 ∷ entry_bytes entry
 record_bytes (Count entries) = 0x14 ∷ u64_bytes entries
 record_bytes (Placed place entry) = 0x15 ∷ u64_bytes place ++ entry_bytes entry
+
+-- a term and places are within their type, a vote names a node, and the record may stand where `record_at` reads it
+abbrev pub IsVote : Option ℕ → Type 0
+IsVote None = Unit {0}
+IsVote (Some node) = (1 ≤ node) × (node ≤ MAX_NODES)
+
+abbrev pub FitsRecord : Bool → ℕ → Record → Type 0
+FitsRecord counted entries (Vote term vote) = IsNumber term × IsVote vote
+FitsRecord counted entries (Cut last) = IsNumber last
+FitsRecord counted entries (Plain entry) = (counted ≡ false) × FitsEntry entry
+FitsRecord counted entries (Count count) = (counted ≡ false) × (count ≡ entries)
+FitsRecord counted entries (Placed place entry) = (counted ≡ true) × (place ≡ entries + 1) × FitsEntry entry
 
 abbrev pub vote_at : List ℕ → Reading (Option ℕ)
 vote_at bytes = do

@@ -1,6 +1,6 @@
 //! Worked journals, computed by the definitions.
 ghost use Rattle.std.specs.Prelude.{◌≡◌, ℕ, [], ◌∷◌, ◌++◌, length, take};
-ghost use Rattle.spec_journal.specs.Journal.{empty_journal, journal_of, loaded_of, version_of, vote_appends, add_appends, upgrade_appends};
+ghost use Rattle.spec_journal.specs.Journal.{empty_journal, journal_of, loaded_of, version_of, records_bytes, vote_records, add_records, upgrade_records};
 ghost use Rattle.spec_journal.specs.Rows.{vote_record, blank_entry, old_journal, count_record, placed_record, new_journal, kept_content};
 
 /// A journal of version 1, of 28 bytes.
@@ -14,8 +14,8 @@ pub fn old_journal_row()
 /// What a cluster of one node keeps of its first election, in 45 bytes.
 pub fn new_journal_row()
     ensures size { length new_journal ≡ 45 }
-    ensures vote { vote_appends empty_journal 1 (Some 1) ≡ count_record ++ vote_record }
-    ensures add { add_appends (journal_of (count_record ++ vote_record)) (blank_entry ∷ []) ≡ placed_record 1 }
+    ensures vote { records_bytes (vote_records empty_journal 1 (Some 1)) ≡ count_record ++ vote_record }
+    ensures add { records_bytes (add_records (journal_of (count_record ++ vote_record)) (blank_entry ∷ [])) ≡ placed_record 1 }
     ensures loaded { loaded_of (journal_of new_journal) ≡ Ok kept_content }
     ensures version { version_of (journal_of new_journal) ≡ 2 }
 {
@@ -23,10 +23,10 @@ pub fn new_journal_row()
 
 /// An upgrade of the journal of version 1 appends 9 bytes.
 pub fn upgrade_row()
-    ensures appended { upgrade_appends (journal_of old_journal) ≡ 0x14 ∷ 0 ∷ 0 ∷ 0 ∷ 0 ∷ 0 ∷ 0 ∷ 0 ∷ 1 ∷ [] }
-    ensures loaded { loaded_of (journal_of (old_journal ++ upgrade_appends (journal_of old_journal))) ≡ Ok kept_content }
-    ensures version { version_of (journal_of (old_journal ++ upgrade_appends (journal_of old_journal))) ≡ 2 }
-    ensures again { upgrade_appends (journal_of new_journal) ≡ [] }
+    ensures appended { records_bytes (upgrade_records (journal_of old_journal)) ≡ 0x14 ∷ 0 ∷ 0 ∷ 0 ∷ 0 ∷ 0 ∷ 0 ∷ 0 ∷ 1 ∷ [] }
+    ensures loaded { loaded_of (journal_of (old_journal ++ records_bytes (upgrade_records (journal_of old_journal)))) ≡ Ok kept_content }
+    ensures version { version_of (journal_of (old_journal ++ records_bytes (upgrade_records (journal_of old_journal)))) ≡ 2 }
+    ensures again { upgrade_records (journal_of new_journal) ≡ [] }
 {
 }
 

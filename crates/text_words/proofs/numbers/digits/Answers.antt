@@ -11,6 +11,6 @@ returns-in_err-n c =
     let i : ℕ = c.loop-b.b-index in
     let lt : i < length word = omega arith in
     let whole : number_on 0 word ≡ number_on c.loop-b.n (get_or word i 0 ∷ drop (suc i) word)
-        = c.loop-b.invariant.read ∙ ap (number_on c.loop-b.n) (drop-cons word i 0 lt) in
+    = c.loop-b.invariant.read ∙ ap (number_on c.loop-b.n) (drop-cons word i 0 lt) in
     let stopped : fitting (number_on c.loop-b.n (get_or word i 0 ∷ [])) ≡ None = sym c.in_err-n.ensures in
     c.from_residual.ensures ∙ sym (ap fitting whole ∙ fitting-more c.loop-b.n (get_or word i 0) (drop (suc i) word) stopped)

@@ -1,11 +1,11 @@
 -- The session goes from its place, and from the index.
-use Rattle.std.proofs.Common.{◌≡◌, sym, position, length, ◌<◌, rules}
+use Rattle.std.proofs.Common.{◌≡◌, sym, ◌∙◌, position, length, ◌<◌, rules}
 use Rattle.std.specs.Prelude.{◌↔◌, IsSome}
 use Rattle.std.specs.VecDeque.{deque_len}
 use Rattle.std.specs.Ordering.{nat_cmp}
 use Rattle.std.specs.BTreeMap.{is_at}
-use Rattle.spec_book.specs.Dict.{without_session}
-use Rattle.res_sessions.proofs.Sessions.{IsIndexed-remove, absent_by_place, kept_by_place, gone_by_place}
+use Rattle.spec_book.specs.Dict.{has_session, without_session}
+use Rattle.res_sessions.proofs.Sessions.{IsIndexed-remove, absent_by_place, kept_by_place, gone_by_place, unchanged_unless_found}
 use Rattle.res_sessions.proofs.queue.SessionQueue.remove.Goals as goal
 
 pub returns-in-None-clause-found : goal.returns-in-None-clause-found
@@ -20,6 +20,16 @@ returns-in-Some-clause-after c =
     let variant : IsSome c.remove.result ↔ (c.in-Some.place < length c.self.inside.sessions.items) = rw (← same) c.remove.ensures.variant in
     gone_by_place c.args.self.now c.remove.new.self.items c.args.session c.in-Some.place c.place_of.result c.remove.result c.place_of.ensures
     c.in-Some.is (rw (← c.self.view_is) variant) (rw (← c.self.view_is) c.remove.ensures.items)
+
+pub returns-in-Some-clause-unchanged : goal.returns-in-Some-clause-unchanged
+returns-in-Some-clause-unchanged c =
+    let same : deque_len c.self.inside.sessions ≡ length c.self.inside.sessions.items = search rules in
+    let variant : IsSome c.remove.result ↔ (c.in-Some.place < length c.self.inside.sessions.items) = rw (← same) c.remove.ensures.variant in
+    let found : c.remove-in-Some.result ≡ has_session c.args.self.now c.args.session =
+    rw (← c.self.view_is) (c.remove-in-Some.ensures.test ∙ c.self.invariant.same c.args.session) in
+    unchanged_unless_found c.args.self.now c.remove.new.self.items c.args.session c.remove-in-Some.result found
+    (gone_by_place c.args.self.now c.remove.new.self.items c.args.session c.in-Some.place c.place_of.result c.remove.result c.place_of.ensures
+    c.in-Some.is (rw (← c.self.view_is) variant) (rw (← c.self.view_is) c.remove.ensures.items))
 
 pub invariant_of-self : goal.invariant_of-self
 invariant_of-self c =

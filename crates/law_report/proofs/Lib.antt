@@ -1,0 +1,6 @@
+pub mod Words
+
+pub mod Numbers
+pub mod Operations
+pub mod Queries
+pub mod Replies

@@ -1,0 +1,2 @@
+//! Different runs have different reports, in text and in JSON.
+#![tactic(auto)]

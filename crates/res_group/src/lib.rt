@@ -1,0 +1,312 @@
+//! Groups, whose earliest member leads.
+#![tactic(auto)]
+
+ghost use Rattle.std.specs.Prelude.{◌≡◌, ℕ, false, true, ◌∷◌, [], ◌++◌, option_to_list, IfOk, OnOk, OnErr, slice_get};
+ghost use Rattle.spec_book.specs.Dict.{has_session, without_session};
+ghost use Rattle.spec_book.specs.Resources.{new_group, replied, tell};
+ghost use Rattle.spec_book.specs.Owners.{leads, leader_of, tell_elected, members_changed, group_act, group_ask, group_unlistened, group_end};
+
+use ax_types::{Duplicate, Event, GroupOp, GroupQuery, List, Name, NoMemory, Reply, Turn};
+use res_sessions::{Listeners, SessionQueue};
+use std::alloc::Global;
+use std::marker::Model;
+use std::mem;
+
+/// The most members of one group.
+pub const MAX_MEMBERS: usize = 1024;
+
+/// The member that leads a group, with its term: the place of the act that made it leader.
+#[derive(Clone, Copy)]
+struct Lead {
+    session: u64,
+    term: u64,
+}
+
+impl Model for Lead {
+    ghost use Rattle.spec_book.specs.Resources.{GroupLeader};
+
+    ghost Value = { GroupLeader };
+
+    ghost view = { λ a. record { session = a.session; term = a.term } };
+
+    ghost inverse = { λ l. record { session = l.session; term = l.term } };
+}
+
+/// A group: its members, the first to join first and nobody twice, the one that leads, if any, and the sessions that
+/// listen.
+#[derive(Drop)]
+pub struct GroupBox {
+    alloc: Global,
+    members: SessionQueue,
+    leader: Option<Lead>,
+    listeners: Listeners,
+}
+
+impl Model for GroupBox {
+    ghost use Rattle.spec_book.specs.Resources.{GroupState};
+
+    ghost Value = { GroupState };
+
+    ghost view = { λ a. record { members = a.members; leader = a.leader; listeners = a.listeners } };
+}
+
+impl GroupBox {
+    /// A group with no member, to which nobody listens. It takes no memory.
+    pub fn new(alloc: Global) -> Self
+        ensures { result ≡ new_group }
+    {
+        GroupBox {
+            alloc,
+            members: SessionQueue::new(alloc),
+            leader: None,
+            listeners: Listeners::new(alloc),
+        }
+    }
+
+    /// One operation of a session. The group is unchanged after want of memory.
+    pub fn act(
+        &mut self,
+        name: &Name,
+        place: u64,
+        session: u64,
+        op: &GroupOp,
+    ) -> Result<Turn, NoMemory>
+        ensures ok { IfOk result (λ turn. turn ≡ (group_act name.now place session op.now self.old).turn) }
+        ensures after { OnOk result (self.new ≡ (group_act name.now place session op.now self.old).state) }
+        ensures err { OnErr result (self.new ≡ self.old) }
+    {
+        match op {
+            GroupOp::Join => self.join(name, place, session),
+            GroupOp::Leave => self.leave(name, place, session),
+            GroupOp::Listen => self.listen(session),
+        }
+    }
+
+    /// What a query is answered.
+    pub fn ask(&self, query: &GroupQuery) -> Result<Reply, NoMemory>
+        ensures { IfOk result (λ reply. reply ≡ group_ask query.now self.now) }
+    {
+        match query {
+            GroupQuery::Members => Ok(Reply::Members(self.members.to_list()?)),
+            GroupQuery::Leader => Ok(leader_reply(&self.leader)),
+        }
+    }
+
+    /// The session ended: it listens no more, and then leaves, as by `leave`, where it is a member. The group is unchanged
+    /// after want of memory.
+    pub fn end(&mut self, name: &Name, place: u64, session: u64) -> Result<Turn, NoMemory>
+        ensures ok { IfOk result (λ turn. turn ≡ (group_end name.now place session (group_unlistened session self.old)).turn) }
+        ensures after { OnOk result (self.new ≡ (group_end name.now place session (group_unlistened session self.old)).state) }
+        ensures err { OnErr result (self.new ≡ self.old) }
+    {
+        let mut listeners = self.listeners.copy()?;
+        listeners.unlisten(session);
+        let before = mem::replace(&mut self.listeners, listeners);
+        match self.depart(name, place, session) {
+            Ok(turn) => Ok(turn),
+            Err(NoMemory) => {
+                self.listeners = before;
+                Err(NoMemory)
+            }
+        }
+    }
+
+    /// The session listens no more.
+    pub fn unlisten(&mut self, session: u64)
+        ensures { self.new ≡ group_unlistened session self.old }
+    {
+        self.listeners.unlisten(session);
+    }
+
+    /// The session ended, and listens no more: it leaves, as by `leave`, where it is a member. The group is unchanged after
+    /// want of memory.
+    pub fn depart(&mut self, name: &Name, place: u64, session: u64) -> Result<Turn, NoMemory>
+        ensures ok { IfOk result (λ turn. turn ≡ (group_end name.now place session self.old).turn) }
+        ensures after { OnOk result (self.new ≡ (group_end name.now place session self.old).state) }
+        ensures err { OnErr result (self.new ≡ self.old) }
+    {
+        if !self.members.contains(session) {
+            return Ok(self.quiet(Reply::Done));
+        }
+        self.remove(name, place, session)
+    }
+
+    /// A reply, and nobody told.
+    fn quiet(&self, reply: Reply) -> Turn
+        ensures { result ≡ (replied self.now reply).turn }
+    {
+        Turn {
+            reply,
+            told: List::new(self.alloc),
+        }
+    }
+
+    /// Whether the session leads the group.
+    fn leads(&self, session: u64) -> bool
+        ensures { result ≡ leads self.now.leader session }
+    {
+        match &self.leader {
+            None => false,
+            Some(lead) => session == lead.session,
+        }
+    }
+
+    /// What the listeners are told of a change of members, after which this member is the first: the change, and then the
+    /// new leader, if it makes one.
+    fn tell_change(
+        &self,
+        name: &Name,
+        place: u64,
+        change: &Event,
+        first: Option<u64>,
+    ) -> Result<List<(u64, Event)>, NoMemory>
+        ensures { IfOk result (λ told. told ≡ tell self.now.listeners change.now
+            ++ tell_elected name.now place (option_to_list first) self.now.leader self.now.listeners) }
+    {
+        let mut told = self.listeners.tell(change)?;
+        match first {
+            None => Ok(told),
+            Some(session) => {
+                if !self.leads(session) {
+                    let elected = elected(name, session, place)?;
+                    self.listeners.tell_too(&elected, &mut told)?;
+                }
+                Ok(told)
+            }
+        }
+    }
+
+    /// The first member leads, from this place on where it did not before.
+    fn elect(&mut self, place: u64)
+        ensures { self.new ≡ record self.old { leader = leader_of place self.old.members self.old.leader } }
+    {
+        match self.members.first() {
+            None => self.leader = None,
+            Some(session) => {
+                if !self.leads(session) {
+                    self.leader = Some(Lead {
+                        session,
+                        term: place,
+                    });
+                }
+            }
+        }
+    }
+
+    /// The session is the last member, where it is none yet and there is room.
+    fn join(&mut self, name: &Name, place: u64, session: u64) -> Result<Turn, NoMemory>
+        ensures ok { IfOk result (λ turn. turn ≡ (group_act name.now place session GroupOp.Join self.old).turn) }
+        ensures after { OnOk result (self.new ≡ (group_act name.now place session GroupOp.Join self.old).state) }
+        ensures err { OnErr result (self.new ≡ self.old) }
+    {
+        if self.members.contains(session) {
+            return Ok(self.quiet(Reply::Already));
+        }
+        if self.members.len() >= MAX_MEMBERS {
+            return Ok(self.quiet(Reply::Full));
+        }
+        self.add(name, place, session)
+    }
+
+    /// The session is the last member, and the listeners are told.
+    fn add(&mut self, name: &Name, place: u64, session: u64) -> Result<Turn, NoMemory>
+        requires { has_session self.old.members session ≡ false }
+        ensures ok { IfOk result (λ turn. turn ≡ (members_changed name.now place (self.old.members ++ session ∷ [])
+            (Event.Joined name.now session) self.old).turn) }
+        ensures after { OnOk result (self.new ≡ (members_changed name.now place (self.old.members ++ session ∷ [])
+            (Event.Joined name.now session) self.old).state) }
+        ensures err { OnErr result (self.new ≡ self.old) }
+    {
+        let first = self.members.first().unwrap_or(session);
+        let change = Event::Joined {
+            name: name.copy()?,
+            session,
+        };
+        let told = self.tell_change(name, place, &change, Some(first))?;
+        self.members.push(session)?;
+        self.elect(place);
+        Ok(Turn {
+            reply: Reply::Done,
+            told,
+        })
+    }
+
+    /// The session is no member any more, where it is one.
+    fn leave(&mut self, name: &Name, place: u64, session: u64) -> Result<Turn, NoMemory>
+        ensures ok { IfOk result (λ turn. turn ≡ (group_act name.now place session GroupOp.Leave self.old).turn) }
+        ensures after { OnOk result (self.new ≡ (group_act name.now place session GroupOp.Leave self.old).state) }
+        ensures err { OnErr result (self.new ≡ self.old) }
+    {
+        if !self.members.contains(session) {
+            return Ok(self.quiet(Reply::NotMember));
+        }
+        self.remove(name, place, session)
+    }
+
+    /// The session is no member any more, and the listeners are told.
+    fn remove(&mut self, name: &Name, place: u64, session: u64) -> Result<Turn, NoMemory>
+        ensures ok { IfOk result (λ turn. turn ≡ (members_changed name.now place (without_session self.old.members session)
+            (Event.Left name.now session) self.old).turn) }
+        ensures after { OnOk result (self.new ≡ (members_changed name.now place (without_session self.old.members session)
+            (Event.Left name.now session) self.old).state) }
+        ensures err { OnErr result (self.new ≡ self.old) }
+    {
+        let first = self.members.first_without(session);
+        let change = Event::Left {
+            name: name.copy()?,
+            session,
+        };
+        let told = self.tell_change(name, place, &change, first)?;
+        self.members.remove(session);
+        self.elect(place);
+        Ok(Turn {
+            reply: Reply::Done,
+            told,
+        })
+    }
+
+    /// The session listens from now on.
+    fn listen(&mut self, session: u64) -> Result<Turn, NoMemory>
+        ensures ok { IfOk result (λ turn. turn ≡ (group_act [] 0 session GroupOp.Listen self.old).turn) }
+        ensures after { OnOk result (self.new ≡ (group_act [] 0 session GroupOp.Listen self.old).state) }
+        ensures err { OnErr result (self.new ≡ self.old) }
+    {
+        let reply = self.listeners.listen(session)?;
+        Ok(self.quiet(reply))
+    }
+}
+
+impl Duplicate for GroupBox {
+    fn copy(&self) -> Result<GroupBox, NoMemory> {
+        Ok(GroupBox {
+            alloc: self.alloc,
+            members: self.members.copy()?,
+            leader: self.leader,
+            listeners: self.listeners.copy()?,
+        })
+    }
+}
+
+/// That a member leads from this place on.
+fn elected(name: &Name, session: u64, place: u64) -> Result<Event, NoMemory>
+    ensures { IfOk result (λ event. event ≡ Event.Elected name.now session place) }
+{
+    Ok(Event::Elected {
+        name: name.copy()?,
+        session,
+        term: place,
+    })
+}
+
+/// The leader with its term as a reply, or that there is none.
+fn leader_reply(leader: &Option<Lead>) -> Reply
+    ensures { result ≡ group_ask GroupQuery.Leader (record { members = []; leader = leader.now; listeners = [] }) }
+{
+    match leader {
+        None => Reply::Nothing,
+        Some(lead) => Reply::Leader {
+            session: lead.session,
+            term: lead.term,
+        },
+    }
+}

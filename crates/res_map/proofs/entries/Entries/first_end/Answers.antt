@@ -1,0 +1,14 @@
+use Rattle.std.proofs.Common.{ℕ, List, ◌≡◌, ap, ◌∙◌}
+use Rattle.std.specs.Prelude.{IfSome}
+use Rattle.std.specs.List.{All}
+use Rattle.spec_book.specs.Resources.{MapItem}
+use Rattle.res_map.specs.Deadlines.{first_end, first_time}
+use Rattle.res_map.proofs.First.{first_end-index}
+use Rattle.res_map.proofs.entries.Entries.first_end.Goals as goal
+
+pub returns : goal.returns
+returns c =
+    let ds = c.self.inside.deadlines in
+    c.first.ensures.time
+    ∙ (first_end-index c.self.inside.items.entries ds c.self.invariant.0 c.self.invariant.1 (rw (← c.first.ensures.time) c.first.ensures.least)
+       ∙ ap (λ (es : List (List ℕ × MapItem)). first_end es) c.self.view_is)

@@ -1,0 +1,4 @@
+pub mod Records
+pub mod Feeding
+pub mod Appending
+pub mod Calls

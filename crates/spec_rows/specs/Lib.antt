@@ -1,0 +1,7 @@
+pub mod Lines
+pub mod RaftRows
+pub mod Commands
+pub mod Leaders
+pub mod Reads
+pub mod Events
+pub mod Kinds
