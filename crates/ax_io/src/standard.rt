@@ -43,7 +43,7 @@ impl<R: Read> Source for StdSource<R> {
         ensures counted { Counted self.old.faults self.new.faults result }
         ensures ok { IfOk result (λ n. Moves None None n buf.old buf.new) }
 
-        // What the reader is known to hold is not lost, and its end is no other answer's.
+        // Where it is known what the reader holds, that loses what was moved, and 0 is its end.
         ensures moved { IfOk result (λ n. Consumes
             (R.remaining self.old.inner) (R.remaining self.new.inner) (take n buf.new)) }
         ensures ends { IfOk result (λ n. n ≡ 0 → 0 < length buf.old → IsAtEnd (R.remaining self.new.inner)) }

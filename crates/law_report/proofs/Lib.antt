@@ -1,6 +1,11 @@
 pub mod Words
-
 pub mod Numbers
 pub mod Operations
 pub mod Queries
 pub mod Replies
+pub mod Parts
+pub mod Items
+pub mod Lines
+pub mod Report
+pub mod Json
+pub mod Escapes

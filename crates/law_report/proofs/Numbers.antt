@@ -1,10 +1,9 @@
 -- A number is read back from its digits.
-use Rattle.std.proofs.Common.{◌≡◌, ℕ, zero, suc, ◌+◌, ◌-◌, ◌%◌, ◌/◌, ◌^◌, ◌<◌, Bool, true, false, ◌&&◌, nat_eq, nat_lt, cond, if◌then◌else◌, ℤ, pos, negsuc, List, [], ◌∷◌, ◌++◌, drop, refl, sym, ap, ◌∙◌, subst, arith}
+use Rattle.std.proofs.Common.{◌≡◌, ℕ, zero, suc, ◌+◌, ◌-◌, ◌%◌, ◌/◌, Bool, true, false, nat_eq, nat_lt, cond, if◌then◌else◌, ℤ, pos, negsuc, slice_index_or, List, [], ◌∷◌, drop, refl, ap, ◌∙◌, arith}
 use Rattle.std.proofs.lemmas.Bool.Decides.{nat_tests}
 use Rattle.std.proofs.lemmas.Fmt.{decimal_is_IsNumeral}
 use Rattle.std.specs.Fmt.{digits, digits_onto, digit_glyph, decimal, signed_decimal}
 use Rattle.std.specs.Str.Parse.{digits_value}
-use Rattle.std.specs.Int.Signed.{mag}
 use Rattle.std.specs.List.{list_all}
 use Rattle.ax_types.specs.Forms.{is_name_byte, is_text_byte}
 use Rattle.law_report.specs.Forms.{IsNumber, IsInteger, IsName, IsText}
@@ -30,7 +29,7 @@ digits_are_above zero n acc h = h
 digits_are_above (suc k) n acc h =
     let more = both (nat_lt 46 (digit_glyph false (n % 10))) (above 46 acc) (glyph_is_above (n % 10) (nat_lt (n % 10) 10)) h in
     choice_is_above (nat_eq (n / 10) 0) (digit_glyph false (n % 10) ∷ acc) _ more
-        (digits_are_above k (n / 10) (digit_glyph false (n % 10) ∷ acc) more)
+    (digits_are_above k (n / 10) (digit_glyph false (n % 10) ∷ acc) more)
 
 -- a digit is above `-` and `.`
 pub decimal-above : (n : ℕ) → above 46 (decimal n) ≡ true
@@ -71,3 +70,25 @@ name_line bs h = word bs (all-weaker is_name_byte (nat_lt 32) name_byte_is_above
 
 pub text_line : (bs : List ℕ) → IsText bs → IsLine bs (bs ∷ [])
 text_line bs h = word bs (all-weaker is_text_byte (nat_lt 32) text_byte_is_above bs (and_second _ (list_all is_text_byte bs) h))
+
+-- ---- the first byte of a number
+
+glyph_is_digit : (n : ℕ) → nat_lt (digit_glyph false (n % 10)) 58 ≡ true
+glyph_is_digit n = grind (arith, nat_tests)
+
+choice_is_digit : (b : Bool) (xs ys : List ℕ) → nat_lt (slice_index_or xs 0 100) 58 ≡ true → nat_lt (slice_index_or ys 0 100) 58 ≡ true → nat_lt (slice_index_or (if b then xs else ys) 0 100) 58 ≡ true
+choice_is_digit true xs ys h k = h
+choice_is_digit false xs ys h k = k
+
+digits_begin : (k n x : ℕ) (acc : List ℕ) → nat_lt x 58 ≡ true → nat_lt (slice_index_or (digits_onto k 10 false n (x ∷ acc)) 0 100) 58 ≡ true
+digits_begin zero n x acc h = h
+digits_begin (suc k) n x acc h =
+    choice_is_digit (nat_eq (n / 10) 0) (digit_glyph false (n % 10) ∷ x ∷ acc) _ (glyph_is_digit n)
+    (digits_begin k (n / 10) (digit_glyph false (n % 10)) (x ∷ acc) (glyph_is_digit n))
+
+-- a number begins with a byte below 58
+pub decimal-begins : (n : ℕ) → nat_lt (slice_index_or (decimal n) 0 100) 58 ≡ true
+unfolding digits
+decimal-begins n =
+    choice_is_digit (nat_eq (n / 10) 0) (digit_glyph false (n % 10) ∷ []) _ (glyph_is_digit n)
+    (digits_begin 63 (n / 10) (digit_glyph false (n % 10)) [] (glyph_is_digit n))

@@ -22,7 +22,7 @@ use Rattle.ax_types.specs.declared.ops.TopicOp.TheVariants as topic_op
 use Rattle.ax_types.specs.declared.ops.Op.{Op}
 use Rattle.ax_types.specs.declared.ops.Op.TheVariants as op
 use Rattle.spec_report.specs.Calls.{map_op_text, value_op_text, long_op_text, lock_op_text, group_op_text, set_op_text, queue_op_text, multimap_op_text, topic_op_text, op_text}
-use Rattle.law_report.specs.Forms.{IsNumber, IsInteger, IsName, IsText, IsMapOp, IsValueOp, IsLongOp, IsSetOp, IsQueueOp, IsMultimapOp, IsTopicOp, IsOp}
+use Rattle.law_report.specs.Forms.{IsName, IsMapOp, IsValueOp, IsLongOp, IsSetOp, IsQueueOp, IsMultimapOp, IsTopicOp, IsOp}
 use Rattle.law_report.proofs.Words.{IsLine, word, join, at, is_word}
 use Rattle.law_report.proofs.Numbers.{number_back, number-back, integer_back, integer-back, number_line, integer_line, name_line, text_line}
 

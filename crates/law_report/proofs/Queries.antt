@@ -1,6 +1,5 @@
 -- A query is read back from its words.
 use Rattle.std.proofs.Common.{◌≡◌, ℕ, cond, List, [], ◌∷◌, drop, codes, refl}
-use Rattle.std.specs.Fmt.{decimal, signed_decimal}
 use Rattle.ax_types.specs.declared.ops.MapQuery.{MapQuery}
 use Rattle.ax_types.specs.declared.ops.MapQuery.TheVariants as map_query
 use Rattle.ax_types.specs.declared.ops.ValueQuery.{ValueQuery}
@@ -22,9 +21,9 @@ use Rattle.ax_types.specs.declared.ops.TopicQuery.TheVariants as topic_query
 use Rattle.ax_types.specs.declared.ops.Query.{Query}
 use Rattle.ax_types.specs.declared.ops.Query.TheVariants as query
 use Rattle.spec_report.specs.Calls.{map_query_text, value_query_text, long_query_text, lock_query_text, group_query_text, set_query_text, queue_query_text, multimap_query_text, topic_query_text, query_text}
-use Rattle.law_report.specs.Forms.{IsNumber, IsInteger, IsName, IsText, IsMapQuery, IsSetQuery, IsMultimapQuery, IsQuery}
+use Rattle.law_report.specs.Forms.{IsName, IsMapQuery, IsSetQuery, IsMultimapQuery, IsQuery}
 use Rattle.law_report.proofs.Words.{IsLine, word, join, at, is_word}
-use Rattle.law_report.proofs.Numbers.{number_back, number-back, integer_back, integer-back, number_line, integer_line, name_line, text_line}
+use Rattle.law_report.proofs.Numbers.{name_line, text_line}
 
 abbrev pub map_query_words : MapQuery → List (List ℕ)
 map_query_words (map_query.Get key) = codes "get" ∷ key ∷ []

@@ -1,5 +1,5 @@
 -- Replies and events are read back from their words.
-use Rattle.std.proofs.Common.{◌≡◌, ℕ, suc, zero, ◌+◌, ◌≤◌, cond, List, [], ◌∷◌, ◌++◌, map, drop, length, codes, refl, sym, ap, ◌∙◌, subst, append-nil, length-append, arith}
+use Rattle.std.proofs.Common.{◌≡◌, ℕ, suc, zero, ◌≤◌, cond, List, [], ◌∷◌, ◌++◌, map, drop, length, codes, refl, sym, ap, ◌∙◌, subst, append-nil, length-append, arith}
 use Rattle.std.specs.Fmt.{decimal, signed_decimal}
 use Rattle.ax_types.specs.declared.replies.Reply.{Reply}
 use Rattle.ax_types.specs.declared.replies.Reply.TheVariants as reply
@@ -7,8 +7,8 @@ use Rattle.ax_types.specs.declared.replies.Event.{Event}
 use Rattle.ax_types.specs.declared.replies.Event.TheVariants as event
 use Rattle.ax_types.specs.declared.replies.How.{How}
 use Rattle.ax_types.specs.declared.replies.How.TheVariants as how
-use Rattle.spec_report.specs.Replies.{numbers_text, reply_text, event_text, events_text, counted_events_text, how_text}
-use Rattle.law_report.specs.Forms.{IsNumber, IsInteger, IsName, IsText, Each, IsReply, IsEvent}
+use Rattle.spec_report.specs.Replies.{numbers_text, reply_text, event_text, events_text, how_text}
+use Rattle.law_report.specs.Forms.{IsNumber, Each, IsReply, IsEvent}
 use Rattle.law_report.proofs.Words.{IsLine, word, join, at, is_word}
 use Rattle.law_report.proofs.Numbers.{number_back, number-back, integer_back, integer-back, number_line, integer_line, name_line, text_line}
 

@@ -1,5 +1,5 @@
 -- A text is split at each place of one byte; a line is split at its blanks into its words.
-use Rattle.std.proofs.Common.{◌≡◌, ℕ, Bool, true, false, ◌&&◌, not, nat_eq, nat_lt, cond, slice_index_or, List, [], ◌∷◌, ◌++◌, refl, sym, ap, ◌∙◌, subst, IsTrue, append-nil, append_assoc, arith}
+use Rattle.std.proofs.Common.{◌≡◌, ℕ, Bool, true, false, ◌&&◌, not, nat_eq, nat_lt, cond, slice_index_or, List, [], ◌∷◌, ◌++◌, refl, ap, ◌∙◌, arith}
 use Rattle.std.proofs.lemmas.Bool.Decides.{nat_tests}
 use Rattle.std.specs.List.{list_all}
 
@@ -40,7 +40,7 @@ not-true : (b : Bool) → not b ≡ true → b ≡ false
 not-true true h = cc
 not-true false h = refl
 
-eq-self : (c : ℕ) → nat_eq c c ≡ true
+pub eq-self : (c : ℕ) → nat_eq c c ≡ true
 eq-self c = grind (arith, nat_tests)
 
 -- tests that one implies the other
@@ -60,7 +60,7 @@ pub first-lacks : (c : ℕ) (xs : List ℕ) → lacks c xs ≡ true → first c 
 first-lacks c [] h = refl
 first-lacks c (x ∷ xs) h =
     rw (not-true (nat_eq x c) (and_first (not (nat_eq x c)) _ h))
-        (ap (λ t. x ∷ t) (first-lacks c xs (and_second (not (nat_eq x c)) _ h)))
+    (ap (λ t. x ∷ t) (first-lacks c xs (and_second (not (nat_eq x c)) _ h)))
 
 pub others-lacks : (c : ℕ) (xs : List ℕ) → lacks c xs ≡ true → others c xs ≡ []
 others-lacks c [] h = refl
@@ -97,14 +97,16 @@ pub record IsLine (t : List ℕ) (ws : List (List ℕ)) : Type 0 where
 -- one word
 pub word : (t : List ℕ) → above 32 t ≡ true → IsLine t (t ∷ [])
 word t h = record {
-    words = pieces-lacks 32 t (above-lacks 32 32 refl t h);
-    bytes = all-weaker (nat_lt 32) (nat_lt 31) (λ x e. grind (arith, nat_tests)) t h }
+  words = pieces-lacks 32 t (above-lacks 32 32 refl t h);
+  bytes = all-weaker (nat_lt 32) (nat_lt 31) (λ x e. grind (arith, nat_tests)) t h;
+}
 
 -- two lines with a blank between them
 pub join : {s t : List ℕ} {us vs : List (List ℕ)} → IsLine s us → IsLine t vs → IsLine (s ++ (32 ∷ t)) (us ++ vs)
 join {s} {t} {us} {vs} h k = record {
-    words = pieces-join 32 s t ∙ (λ i. h.words i ++ k.words i);
-    bytes = all-append (nat_lt 31) s (32 ∷ t) h.bytes k.bytes }
+  words = pieces-join 32 s t ∙ (λ i. h.words i ++ k.words i);
+  bytes = all-append (nat_lt 31) s (32 ∷ t) h.bytes k.bytes;
+}
 
 -- the word at a place, counted from 0
 abbrev pub at : ℕ → List (List ℕ) → List ℕ

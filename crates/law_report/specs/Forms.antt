@@ -8,10 +8,6 @@ use Rattle.ax_types.specs.declared.ops.ValueOp.{ValueOp}
 use Rattle.ax_types.specs.declared.ops.ValueOp.TheVariants as value_op
 use Rattle.ax_types.specs.declared.ops.LongOp.{LongOp}
 use Rattle.ax_types.specs.declared.ops.LongOp.TheVariants as long_op
-use Rattle.ax_types.specs.declared.ops.LockOp.{LockOp}
-use Rattle.ax_types.specs.declared.ops.LockOp.TheVariants as lock_op
-use Rattle.ax_types.specs.declared.ops.GroupOp.{GroupOp}
-use Rattle.ax_types.specs.declared.ops.GroupOp.TheVariants as group_op
 use Rattle.ax_types.specs.declared.ops.SetOp.{SetOp}
 use Rattle.ax_types.specs.declared.ops.SetOp.TheVariants as set_op
 use Rattle.ax_types.specs.declared.ops.QueueOp.{QueueOp}
@@ -24,22 +20,10 @@ use Rattle.ax_types.specs.declared.ops.Op.{Op}
 use Rattle.ax_types.specs.declared.ops.Op.TheVariants as op
 use Rattle.ax_types.specs.declared.ops.MapQuery.{MapQuery}
 use Rattle.ax_types.specs.declared.ops.MapQuery.TheVariants as map_query
-use Rattle.ax_types.specs.declared.ops.ValueQuery.{ValueQuery}
-use Rattle.ax_types.specs.declared.ops.ValueQuery.TheVariants as value_query
-use Rattle.ax_types.specs.declared.ops.LongQuery.{LongQuery}
-use Rattle.ax_types.specs.declared.ops.LongQuery.TheVariants as long_query
-use Rattle.ax_types.specs.declared.ops.LockQuery.{LockQuery}
-use Rattle.ax_types.specs.declared.ops.LockQuery.TheVariants as lock_query
-use Rattle.ax_types.specs.declared.ops.GroupQuery.{GroupQuery}
-use Rattle.ax_types.specs.declared.ops.GroupQuery.TheVariants as group_query
 use Rattle.ax_types.specs.declared.ops.SetQuery.{SetQuery}
 use Rattle.ax_types.specs.declared.ops.SetQuery.TheVariants as set_query
-use Rattle.ax_types.specs.declared.ops.QueueQuery.{QueueQuery}
-use Rattle.ax_types.specs.declared.ops.QueueQuery.TheVariants as queue_query
 use Rattle.ax_types.specs.declared.ops.MultimapQuery.{MultimapQuery}
 use Rattle.ax_types.specs.declared.ops.MultimapQuery.TheVariants as multimap_query
-use Rattle.ax_types.specs.declared.ops.TopicQuery.{TopicQuery}
-use Rattle.ax_types.specs.declared.ops.TopicQuery.TheVariants as topic_query
 use Rattle.ax_types.specs.declared.ops.Query.{Query}
 use Rattle.ax_types.specs.declared.ops.Query.TheVariants as query
 use Rattle.ax_types.specs.declared.ops.WindowCall.{WindowCall}

@@ -53,9 +53,9 @@ abbrev pub is_open : Option (ℕ × Act) → Bool
 is_open None = false
 is_open (Some a) = opens a.1
   where
-  opens : Act → Bool
-  opens (act.Open c o) = true
-  opens _ = false
+    opens : Act → Bool
+    opens (act.Open c o) = true
+    opens _ = false
 
 -- whether an act ends the session
 abbrev pub ends : ℕ → Act → Bool
@@ -80,10 +80,10 @@ abbrev pub sign_after : ℕ → ℕ → ℕ → History → ℕ
 sign_after s done last [] = last
 sign_after s done last (a ∷ acts) = sign_after s (done + 1) (signed s (done + 1) a.0 last a.1) acts
   where
-  signed : ℕ → ℕ → ℕ → ℕ → Act → ℕ
-  signed s p time last (act.Open c o) = if nat_eq s p then time else last
-  signed s p time last (act.Keep t) = if nat_eq s t then time else last
-  signed s p time last _ = last
+    signed : ℕ → ℕ → ℕ → ℕ → Act → ℕ
+    signed s p time last (act.Open c o) = if nat_eq s p then time else last
+    signed s p time last (act.Keep t) = if nat_eq s t then time else last
+    signed s p time last _ = last
 
 -- the time of the last opening or keep-alive of the session before place p
 abbrev pub sign : History → ℕ → ℕ → ℕ
@@ -93,9 +93,9 @@ sign h p s = sign_after s 0 0 (take (p - 1) h)
 abbrev pub IsDue : History → ℕ → ℕ → ℕ × Act → Type 0
 IsDue h timeout p a = due_by a.1
   where
-  due_by : Act → Type 0
-  due_by (act.Expire s) = timeout ≤ a.0 - sign h p s
-  due_by _ = Unit {0}
+    due_by : Act → Type 0
+    due_by (act.Expire s) = timeout ≤ a.0 - sign h p s
+    due_by _ = Unit {0}
 
 abbrev pub IsOfLive : History → ℕ → Option ℕ → Type 0
 IsOfLive h p None = Unit {0}
@@ -143,9 +143,9 @@ abbrev pub dos_after : ℕ → ℕ → History → List (ℕ × (List ℕ × Op)
 dos_after s done [] = []
 dos_after s done (a ∷ acts) = with_do s (done + 1) a.1 (dos_after s (done + 1) acts)
   where
-  with_do : ℕ → ℕ → Act → List (ℕ × (List ℕ × Op)) → List (ℕ × (List ℕ × Op))
-  with_do s p (act.Do t name o) rest = if nat_eq s t then (p, (name, o)) ∷ rest else rest
-  with_do s p _ rest = rest
+    with_do : ℕ → ℕ → Act → List (ℕ × (List ℕ × Op)) → List (ℕ × (List ℕ × Op))
+    with_do s p (act.Do t name o) rest = if nat_eq s t then (p, (name, o)) ∷ rest else rest
+    with_do s p _ rest = rest
 
 abbrev pub dos : History → ℕ → List (ℕ × (List ℕ × Op))
 dos h s = dos_after s 0 h

@@ -64,9 +64,9 @@ lock_act name place session lock.Cancel s =
 abbrev pub lock_ask : LockQuery → LockState → Reply
 lock_ask lock_query.Holder s = holder_reply s.holder
   where
-  holder_reply : Option Holder → Reply
-  holder_reply None = reply.Nothing
-  holder_reply (Some h) = reply.Holder h.session h.fence
+    holder_reply : Option Holder → Reply
+    holder_reply None = reply.Nothing
+    holder_reply (Some h) = reply.Holder h.session h.fence
 lock_ask lock_query.Waiting s = reply.Number (pos (length s.waiting))
 
 -- the session ended: it leaves the queue, and the lock that it holds is freed
@@ -102,7 +102,7 @@ abbrev pub group_act : List ℕ → ℕ → ℕ → GroupOp → GroupState → A
 group_act name place session group.Join s =
     if has_session s.members session then replied s reply.Already
     else (if is_full s.members then replied s reply.Full
-          else members_changed name place (s.members ++ session ∷ []) (event.Joined name session) s)
+    else members_changed name place (s.members ++ session ∷ []) (event.Joined name session) s)
 group_act name place session group.Leave s =
     if has_session s.members session
     then members_changed name place (without_session s.members session) (event.Left name session) s
@@ -114,9 +114,9 @@ abbrev pub group_ask : GroupQuery → GroupState → Reply
 group_ask group_query.Members s = reply.Members s.members
 group_ask group_query.Leader s = leader_reply s.leader
   where
-  leader_reply : Option GroupLeader → Reply
-  leader_reply None = reply.Nothing
-  leader_reply (Some l) = reply.Leader l.session l.term
+    leader_reply : Option GroupLeader → Reply
+    leader_reply None = reply.Nothing
+    leader_reply (Some l) = reply.Leader l.session l.term
 
 abbrev pub group_unlistened : ℕ → GroupState → GroupState
 group_unlistened session s = record s { listeners = without_session s.listeners session }

@@ -41,9 +41,9 @@ value_act name session (op.Cas e v) s =
     else replied s reply.No
 value_act name session op.Clear s = value_clear name s.text s
   where
-  value_clear : List ℕ → Option (List ℕ) → ValueState → Acted ValueState
-  value_clear name None s = replied s reply.Nothing
-  value_clear name (Some v) s = told_too (record s { text = None }) (reply.Found v) (tell s.listeners (event.Cleared name))
+    value_clear : List ℕ → Option (List ℕ) → ValueState → Acted ValueState
+    value_clear name None s = replied s reply.Nothing
+    value_clear name (Some v) s = told_too (record s { text = None }) (reply.Found v) (tell s.listeners (event.Cleared name))
 value_act name session op.Listen s = replied (record s { listeners = listen_after s.listeners session }) (listen_reply s.listeners session)
 
 abbrev pub value_ask : ValueQuery → ValueState → Reply

@@ -33,25 +33,25 @@ replied_after done book (a ∷ acts) =
 abbrev pub offered : List ℕ → Replied → List (ℕ × List ℕ)
 offered name r = taken_in r.act r.reply
   where
-  taken_in : Act → Reply → List (ℕ × List ℕ)
-  taken_in (act.Do s n (op.Queue (queue.Offer v))) reply.Yes = if is_at (bytes_cmp name) n then (r.place, v) ∷ [] else []
-  taken_in _ _ = []
+    taken_in : Act → Reply → List (ℕ × List ℕ)
+    taken_in (act.Do s n (op.Queue (queue.Offer v))) reply.Yes = if is_at (bytes_cmp name) n then (r.place, v) ∷ [] else []
+    taken_in _ _ = []
 
 -- the texts that polls took from it, each with its place
 abbrev pub polled : List ℕ → Replied → List (ℕ × List ℕ)
 polled name r = taken_out r.act r.reply
   where
-  taken_out : Act → Reply → List (ℕ × List ℕ)
-  taken_out (act.Do s n (op.Queue queue.Poll)) (reply.Found v) = if is_at (bytes_cmp name) n then (r.place, v) ∷ [] else []
-  taken_out _ _ = []
+    taken_out : Act → Reply → List (ℕ × List ℕ)
+    taken_out (act.Do s n (op.Queue queue.Poll)) (reply.Found v) = if is_at (bytes_cmp name) n then (r.place, v) ∷ [] else []
+    taken_out _ _ = []
 
 -- the places of polls that found it empty
 abbrev pub polled_empty : List ℕ → Replied → List ℕ
 polled_empty name r = found_none r.act r.reply
   where
-  found_none : Act → Reply → List ℕ
-  found_none (act.Do s n (op.Queue queue.Poll)) reply.Nothing = if is_at (bytes_cmp name) n then r.place ∷ [] else []
-  found_none _ _ = []
+    found_none : Act → Reply → List ℕ
+    found_none (act.Do s n (op.Queue queue.Poll)) reply.Nothing = if is_at (bytes_cmp name) n then r.place ∷ [] else []
+    found_none _ _ = []
 
 abbrev pub offers : List ℕ → History → List (ℕ × List ℕ)
 offers name h = flat_map (offered name) (replied_after 0 [] h)
@@ -70,8 +70,8 @@ before p xs = count_by (λ x. nat_lt x.0 p) xs
 abbrev pub is_reply_at : ℕ → Item → Bool
 is_reply_at p (item.Reply s n q r) = is_same q
   where
-  is_same : ℕ → Bool
-  is_same q = if nat_lt p q then false else (if nat_lt q p then false else true)
+    is_same : ℕ → Bool
+    is_same q = if nat_lt p q then false else (if nat_lt q p then false else true)
 is_reply_at p x = false
 
 abbrev pub IsOfItsOwn : List Item → Item → Type 0

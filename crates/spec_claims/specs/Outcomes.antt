@@ -39,17 +39,17 @@ IsNumbered s above x = Unit {0}
 abbrev pub IsBelowNumber : ℕ → ℕ → Item → Type 0
 IsBelowNumber s n x = below (outcome_of s x)
   where
-  below : Option ℕ → Type 0
-  below None = Unit {0}
-  below (Some m) = m < n
+    below : Option ℕ → Type 0
+    below None = Unit {0}
+    below (Some m) = m < n
 
 -- outcomes rise by call number, at most one for each
 abbrev pub IsRising : ℕ → List Item → Item → Type 0
 IsRising s above x = rises (outcome_of s x)
   where
-  rises : Option ℕ → Type 0
-  rises None = Unit {0}
-  rises (Some n) = AllByRecursion (IsBelowNumber s n) above
+    rises : Option ℕ → Type 0
+    rises None = Unit {0}
+    rises (Some n) = AllByRecursion (IsBelowNumber s n) above
 
 -- a reply is for a command that was called, a read for a query; an unanswered call comes below every other outcome
 abbrev pub IsForItsCall : ℕ → List Item → Item → Type 0
@@ -76,10 +76,10 @@ abbrev pub IsEndOf : ℕ → How → Option (ℕ × Act) → Type 0
 IsEndOf s way None = ⊥
 IsEndOf s way (Some a) = ends_so a.1 way
   where
-  ends_so : Act → How → Type 0
-  ends_so (act.Close t) how.Closed = s ≡ t
-  ends_so (act.Expire t) how.Expired = s ≡ t
-  ends_so _ _ = ⊥
+    ends_so : Act → How → Type 0
+    ends_so (act.Close t) how.Closed = s ≡ t
+    ends_so (act.Expire t) how.Expired = s ≡ t
+    ends_so _ _ = ⊥
 
 -- what is called, answered, heard or ended of a session stands below its opening and not below its end, which the history
 -- has at its place; a call that was not sent stands below the end

@@ -24,9 +24,9 @@ abbrev pub IsOpeningOf : ℕ → ℕ → Option (ℕ × Act) → Type 0
 IsOpeningOf c opening None = ⊥
 IsOpeningOf c opening (Some a) = of_client a.1
   where
-  of_client : Act → Type 0
-  of_client (act.Open d o) = (c ≡ d) × (opening ≡ o)
-  of_client _ = ⊥
+    of_client : Act → Type 0
+    of_client (act.Open d o) = (c ≡ d) × (opening ≡ o)
+    of_client _ = ⊥
 
 -- the request of a linearizable query reached a leader, and the place is at least each commit above that
 pub record IsReached (items : List Item) (s n p term arrival : ℕ) : Type 0 where

@@ -16,9 +16,9 @@ abbrev pub IsOpening : ℕ → Option (ℕ × Act) → Type 0
 IsOpening c None = ⊥
 IsOpening c (Some a) = by_client a.1
   where
-  by_client : Act → Type 0
-  by_client (act.Open d opening) = c ≡ d
-  by_client _ = ⊥
+    by_client : Act → Type 0
+    by_client (act.Open d opening) = c ≡ d
+    by_client _ = ⊥
 
 abbrev pub is_opened : ℕ → Item → Bool
 is_opened s (item.Opened t c) = nat_eq s t
@@ -41,7 +41,7 @@ IsRight h above (item.Reply s n p r) =
     (option_map (λ d. d.0) (at_place (dos h s) (commands_upto s n above)) ≡ Some p) × (reply_at h p ≡ Some r)
 IsRight h above (item.Read s n level p reach r) =
     ((name : List ℕ) × (query : Query) × StandsIn (item.Called s n (call.Query level name query)) above
-     × (r ≡ ask (book_at h p) name query)) × IsTrue (is_live h p s)
+    × (r ≡ ask (book_at h p) name query)) × IsTrue (is_live h p s)
 IsRight h above x = Unit {0}
 
 -- a place that an item names was committed above it

@@ -64,9 +64,9 @@ outcome_of s x = None
 abbrev pub is_outcome : ℕ → ℕ → Item → Bool
 is_outcome s n x = is_number (outcome_of s x)
   where
-  is_number : Option ℕ → Bool
-  is_number None = false
-  is_number (Some m) = nat_eq n m
+    is_number : Option ℕ → Bool
+    is_number None = false
+    is_number (Some m) = nat_eq n m
 
 -- the calls of a session without an outcome among the items, in order
 abbrev pub unanswered : ℕ → List Item → List (ℕ × WindowCall)

@@ -88,9 +88,9 @@ with_mark bag number = record bag { kept = change_place (λ s. record s { is_mar
 -- why a packet cannot be marked: its number was not given, or it is no longer kept
 abbrev pub mark_refusal : Bag → ℕ → Option SkipReason
 mark_refusal bag number =
-  if nat_eq number 0 || nat_lt bag.sent number then Some reason.NeverSent
-  else if nat_le number (gone bag) then Some reason.Gone
-  else None
+    if nat_eq number 0 || nat_lt bag.sent number then Some reason.NeverSent
+    else if nat_le number (gone bag) then Some reason.Gone
+    else None
 
 -- whether a packet's receiver is a node that is not up
 abbrev pub is_down : List ℕ → End → Bool

@@ -157,7 +157,7 @@ made c i = made_due c (due c i)
 abbrev pub halted_due : Cluster → Option Due → ℕ → ℕ → Cluster
 halted_due c None saved added = c
 halted_due c (Some d) saved added = let calls = calls_of (out d.node d.input).saves in
-  if may_fail calls saved added then with_member d.cluster d.number (fallen d.node (kept_after (kept_of d.node) calls saved added)) else c
+    if may_fail calls saved added then with_member d.cluster d.number (fallen d.node (kept_after (kept_of d.node) calls saved added)) else c
 
 -- one step of the cluster, and all of a list
 abbrev pub happened : Cluster → RaftStep → Cluster

@@ -74,7 +74,7 @@ turns (suc left) number x =
 abbrev pub first_lines : List Line
 first_lines =
     line.Do (step.Elect 1) ∷ line.Settle 1 ∷ line.Do (step.Open 1 1) ∷ line.Do (step.Open 2 2)
-      ∷ line.Do (step.Open 3 3) ∷ line.Do (step.Open 4 1) ∷ line.Settle 1 ∷ []
+    ∷ line.Do (step.Open 3 3) ∷ line.Do (step.Open 4 1) ∷ line.Settle 1 ∷ []
 
 unfoldable pub turn_count : ℕ
 turn_count = 2000

@@ -38,6 +38,6 @@ end_line (ends.StepLimit line) = codes "end step-limit\n"
 abbrev pub summary_text : ℕ → ℕ → ℕ → List Item → RunEnd → List ℕ
 summary_text seed steps places items end =
     number_line (codes "gen") seed (number_line (codes "steps") steps (number_line (codes "history") places
-      (number_line (codes "called") (count_by is_called items) (number_line (codes "replies") (count_by is_reply items)
-        (number_line (codes "reads") (count_by is_read items) (number_line (codes "events") (count_by is_event items)
-          (number_line (codes "skips") (count_by is_skip items) (end_line end))))))))
+    (number_line (codes "called") (count_by is_called items) (number_line (codes "replies") (count_by is_reply items)
+    (number_line (codes "reads") (count_by is_read items) (number_line (codes "events") (count_by is_event items)
+    (number_line (codes "skips") (count_by is_skip items) (end_line end))))))))

@@ -1,6 +1,6 @@
 -- Appending whole records, and the strict front of such an append.
-use Rattle.std.proofs.Common.{◌≡◌, ℕ, suc, ◌-◌, Bool, false, List, [], ◌∷◌, ◌++◌, length, fold, Err, refl, sym, ap, subst, arith, ◌∙◌, ◌⊎◌, inl, inr}
-use Rattle.std.proofs.lemmas.List.{length-append, get_or_append_left, get_or_past}
+use Rattle.std.proofs.Common.{◌≡◌, ℕ, suc, ◌-◌, Bool, false, List, [], ◌∷◌, ◌++◌, length, take, fold, Err, refl, sym, ap, subst, arith, ◌∙◌, ◌⊎◌, inl, inr}
+use Rattle.std.proofs.lemmas.List.{take_at, length-append, get_or_append_left, get_or_past}
 use Rattle.std.proofs.lemmas.Bool.{cases_lt}
 use Rattle.spec_reading.specs.Reading.{IsBytes, Part, Wrong}
 use Rattle.spec_reading.proofs.Laws.{part_of}
@@ -36,21 +36,21 @@ some_byte (Count entries) = (_, _, refl)
 some_byte (Placed place entry) = (_, _, refl)
 
 pub feed_record : (j : Journal) (r : Record) → IsClean j → HasRoom j → FitsRecord j.counted (length j.content.log) r → IsBytes (record_bytes r)
-  → fold fed j (record_bytes r) ≡ with_record j r (length (record_bytes r))
+    → fold fed j (record_bytes r) ≡ with_record j r (length (record_bytes r))
 feed_record j r clean room fits bytes =
     let s = some_byte r in
     ap (λ (k : Journal). fold fed k (record_bytes r)) (sym (clean_is j clean))
-      ∙ ap (fold fed (torn_to j [])) s.2
-      ∙ feed-whole j r [] s.0 s.1 room fits bytes (sym s.2)
+    ∙ ap (fold fed (torn_to j [])) s.2
+    ∙ feed-whole j r [] s.0 s.1 room fits bytes (sym s.2)
 
 pub feed_records : (j : Journal) (records : List Record) → IsClean j → StandBehind j records → IsBytes (records_bytes records)
-  → fold fed j (records_bytes records) ≡ with_records j records
+    → fold fed j (records_bytes records) ≡ with_records j records
 feed_records j [] clean stand bytes = refl
 feed_records j (r ∷ records) clean stand bytes =
     let first = feed_record j r clean stand.0 stand.1 (IsBytes-front (record_bytes r) (records_bytes records) bytes) in
     fold-append (record_bytes r) (records_bytes records) j
-      ∙ ap (λ (k : Journal). fold fed k (records_bytes records)) first
-      ∙ feed_records (with_record j r (length (record_bytes r))) records (record { torn = refl; bad = refl }) stand.2 (IsBytes-behind (record_bytes r) (records_bytes records) bytes)
+    ∙ ap (λ (k : Journal). fold fed k (records_bytes records)) first
+    ∙ feed_records (with_record j r (length (record_bytes r))) records (record { torn = refl; bad = refl }) stand.2 (IsBytes-behind (record_bytes r) (records_bytes records) bytes)
 
 abbrev Splits : List ℕ → List ℕ → List ℕ → List ℕ → Type 0
 Splits a b c d = ((x : ℕ) × (e : List ℕ) × (a ≡ c ++ (x ∷ e))) ⊎ ((e : List ℕ) × (c ≡ a ++ e) × (b ≡ e ++ d))
@@ -72,7 +72,7 @@ no_front [] b more h = cc
 no_front (c ∷ front) b more h = cc
 
 pub feed_torn : (j : Journal) (records : List Record) (front : List ℕ) (b : ℕ) (more : List ℕ) → IsClean j → StandBehind j records
-  → IsBytes (records_bytes records) → records_bytes records ≡ front ++ (b ∷ more) → IsTornAppend j records (fold fed j front)
+    → IsBytes (records_bytes records) → records_bytes records ≡ front ++ (b ∷ more) → IsTornAppend j records (fold fed j front)
 feed_torn j [] front b more clean stand bytes same = absurd (no_front front b more same)
 feed_torn j (r ∷ records) front b more clean stand bytes same =
     elim (split (record_bytes r) (records_bytes records) front (b ∷ more) same) [
@@ -80,7 +80,7 @@ feed_torn j (r ∷ records) front b more clean stand bytes same =
           let own : IsBytes (record_bytes r) = IsBytes-front (record_bytes r) (records_bytes records) bytes in
           let cut : IsBytes (front ++ (s.0 ∷ s.1)) = subst IsBytes s.2 own in
           let part : reading j front ≡ Err Part =
-              part_of (record_reads j.counted (length j.content.log) stand.0) r front s.0 s.1 stand.1 (IsBytes-behind front (s.0 ∷ s.1) cut) s.2 in
+          part_of (record_reads j.counted (length j.content.log) stand.0) r front s.0 s.1 stand.1 (IsBytes-behind front (s.0 ∷ s.1) cut) s.2 in
           let fed_front : fold fed (torn_to j []) front ≡ torn_to j front = feed-part j [] front stand.0 (IsBytes-front front (s.0 ∷ s.1) cut) part in
           record { count = 0; torn = front; fewer = omega arith; is = ap (λ (k : Journal). fold fed k front) (sym (clean_is j clean)) ∙ fed_front }
       | inr s ↦
@@ -88,22 +88,35 @@ feed_torn j (r ∷ records) front b more clean stand bytes same =
           let first = feed_record j r clean stand.0 stand.1 (IsBytes-front (record_bytes r) (records_bytes records) bytes) in
           let later = feed_torn next records s.0 b more (record { torn = refl; bad = refl }) stand.2 (IsBytes-behind (record_bytes r) (records_bytes records) bytes) s.2 in
           let same_fold : fold fed j front ≡ fold fed next s.0 =
-              ap (fold fed j) s.1 ∙ fold-append (record_bytes r) s.0 j ∙ ap (λ (k : Journal). fold fed k s.0) first in
+          ap (fold fed j) s.1 ∙ fold-append (record_bytes r) s.0 j ∙ ap (λ (k : Journal). fold fed k s.0) first in
           record { count = suc later.count; torn = later.torn; fewer = omega (arith, later.fewer); is = same_fold ∙ later.is }
     ]
 
 -- ---- reading record by record
 
 pub next_whole : (j : Journal) (bytes : List ℕ) (r : Record) (rest : List ℕ) → IsClean j → HasRoom j → IsBytes bytes → reading j bytes ≡ ok (r, rest)
-  → fold fed j bytes ≡ fold fed (with_record j r (length bytes - length rest)) rest
+    → fold fed j bytes ≡ fold fed (with_record j r (length bytes - length rest)) rest
 next_whole j bytes r rest clean room are_bytes e =
     let s = (record_reads j.counted (length j.content.log) room).exact.spelled bytes r rest are_bytes e in
     let own : IsBytes (record_bytes r) = IsBytes-front (record_bytes r) rest (subst IsBytes s.0 are_bytes) in
     let size : length (record_bytes r) ≡ length bytes - length rest = omega (arith, ap length s.0, length-append (record_bytes r) rest) in
     ap (fold fed j) s.0
-      ∙ fold-append (record_bytes r) rest j
-      ∙ ap (λ (k : Journal). fold fed k rest) (feed_record j r clean room s.1 own)
-      ∙ ap (λ (n : ℕ). fold fed (with_record j r n) rest) size
+    ∙ fold-append (record_bytes r) rest j
+    ∙ ap (λ (k : Journal). fold fed k rest) (feed_record j r clean room s.1 own)
+    ∙ ap (λ (n : ℕ). fold fed (with_record j r n) rest) size
+
+pub next_own : (j : Journal) (bytes : List ℕ) (r : Record) (rest : List ℕ) → IsClean j → HasRoom j → IsBytes bytes → reading j bytes ≡ ok (r, rest)
+    → fold fed j (take (length bytes - length rest) bytes) ≡ with_record j r (length bytes - length rest)
+next_own j bytes r rest clean room are_bytes e =
+    let s = (record_reads j.counted (length j.content.log) room).exact.spelled bytes r rest are_bytes e in
+    let own : IsBytes (record_bytes r) = IsBytes-front (record_bytes r) rest (subst IsBytes s.0 are_bytes) in
+    let size : length (record_bytes r) ≡ length bytes - length rest = omega (arith, ap length s.0, length-append (record_bytes r) rest) in
+    let front : take (length (record_bytes r)) bytes ≡ record_bytes r =
+    ap (take (length (record_bytes r))) s.0 ∙ take_at (record_bytes r) rest (length (record_bytes r)) refl in
+    ap (λ (n : ℕ). fold fed j (take n bytes)) (sym size)
+    ∙ ap (fold fed j) front
+    ∙ feed_record j r clean room s.1 own
+    ∙ ap (with_record j r) size
 
 pub next_part : (j : Journal) (bytes : List ℕ) → IsClean j → HasRoom j → IsBytes bytes → reading j bytes ≡ Err Part → fold fed j bytes ≡ torn_to j bytes
 next_part j bytes clean room are_bytes e = ap (λ (k : Journal). fold fed k bytes) (sym (clean_is j clean)) ∙ feed-part j [] bytes room are_bytes e

@@ -14,8 +14,8 @@ abbrev made : Loaded → Bool → ℕ → List ℕ → Bool → Journal
 made content counted whole torn bad = record { content = content; counted = counted; whole = whole; torn = torn; bad = bad }
 
 vote_kept_of : (content : Loaded) (counted : Bool) (whole : ℕ) (torn : List ℕ) (bad : Bool) (term : ℕ) (vote : Option ℕ)
-  → length content.log + 1 < 2 ^ 64 → IsNumber term → IsVote vote
-  → IsKept (made content counted whole torn bad) (vote_records (made content counted whole torn bad) term vote) (after_record content (Vote term vote))
+    → length content.log + 1 < 2 ^ 64 → IsNumber term → IsVote vote
+    → IsKept (made content counted whole torn bad) (vote_records (made content counted whole torn bad) term vote) (after_record content (Vote term vote))
 vote_kept_of content true whole torn bad term vote room ft fv = record { stand = (room, (ft, fv), tt); whole = refl; part = part }
   where
     part : (count : ℕ) → count < 1 → (with_records (made content true whole torn bad) (take count (Vote term vote ∷ []))).content ≡ content
@@ -29,12 +29,12 @@ vote_kept_of content false whole torn bad term vote room ft fv = record { stand 
     part (suc (suc n)) h = absurd (omega arith)
 
 pub vote_kept : (j : Journal) (term : ℕ) (vote : Option ℕ) → length j.content.log + 1 < 2 ^ 64 → IsNumber term → IsVote vote
-  → IsKept j (vote_records j term vote) (after_record j.content (Vote term vote))
+    → IsKept j (vote_records j term vote) (after_record j.content (Vote term vote))
 vote_kept j term vote room ft fv = vote_kept_of j.content j.counted j.whole j.torn j.bad term vote room ft fv
 
 cut_kept_of : (content : Loaded) (counted : Bool) (whole : ℕ) (torn : List ℕ) (bad : Bool) (last : ℕ)
-  → length content.log + 1 < 2 ^ 64 → IsNumber last
-  → IsKept (made content counted whole torn bad) (cut_records (made content counted whole torn bad) last) (after_record content (Cut last))
+    → length content.log + 1 < 2 ^ 64 → IsNumber last
+    → IsKept (made content counted whole torn bad) (cut_records (made content counted whole torn bad) last) (after_record content (Cut last))
 cut_kept_of content true whole torn bad last room fl = record { stand = (room, fl, tt); whole = refl; part = part }
   where
     part : (count : ℕ) → count < 1 → (with_records (made content true whole torn bad) (take count (Cut last ∷ []))).content ≡ content
@@ -48,7 +48,7 @@ cut_kept_of content false whole torn bad last room fl = record { stand = (room, 
     part (suc (suc n)) h = absurd (omega arith)
 
 pub cut_kept : (j : Journal) (last : ℕ) → length j.content.log + 1 < 2 ^ 64 → IsNumber last
-  → IsKept j (cut_records j last) (after_record j.content (Cut last))
+    → IsKept j (cut_records j last) (after_record j.content (Cut last))
 cut_kept j last room fl = cut_kept_of j.content j.counted j.whole j.torn j.bad last room fl
 
 -- ---- entries
@@ -66,18 +66,18 @@ after_placed content whole torn bad e =
 
 -- records of entries behind a record of their number
 pub placed_stand : (content : Loaded) (whole : ℕ) (torn : List ℕ) (bad : Bool) (entries : List Entry)
-  → length content.log + length entries + 1 < 2 ^ 64 → AllByRecursion FitsEntry entries
-  → StandBehind (made content true whole torn bad) (placed_records (length content.log + 1) entries)
+    → length content.log + length entries + 1 < 2 ^ 64 → AllByRecursion FitsEntry entries
+    → StandBehind (made content true whole torn bad) (placed_records (length content.log + 1) entries)
 placed_stand content whole torn bad [] room fits = tt
 placed_stand content whole torn bad (e ∷ entries) room fits =
     let longer : length (content.log ++ e ∷ []) ≡ length content.log + 1 = length-append content.log (e ∷ []) in
     let next : Journal = after_placed content whole torn bad e in
     let later : StandBehind next (placed_records (length (content.log ++ e ∷ []) + 1) entries) =
-        placed_stand (with_log content (content.log ++ e ∷ [])) (next.whole) [] false entries (omega (arith, longer)) fits.1 in
+    placed_stand (with_log content (content.log ++ e ∷ [])) (next.whole) [] false entries (omega (arith, longer)) fits.1 in
     (omega arith, (refl, refl, fits.0), subst (λ (n : ℕ). StandBehind next (placed_records (n + 1) entries)) longer later)
 
 pub placed_part : (content : Loaded) (whole : ℕ) (torn : List ℕ) (bad : Bool) (place : ℕ) (entries : List Entry) (count : ℕ)
-  → (with_records (made content true whole torn bad) (take count (placed_records place entries))).content ≡ with_log content (content.log ++ take count entries)
+    → (with_records (made content true whole torn bad) (take count (placed_records place entries))).content ≡ with_log content (content.log ++ take count entries)
 placed_part content whole torn bad place entries zero = ap (with_log content) (sym (append_nil content.log))
 placed_part content whole torn bad place [] (suc n) = ap (with_log content) (sym (append_nil content.log))
 placed_part content whole torn bad place (e ∷ entries) (suc n) =
@@ -92,17 +92,17 @@ length_placed place [] = refl
 length_placed place (e ∷ entries) = ap suc (length_placed (place + 1) entries)
 
 placed_whole : (content : Loaded) (whole : ℕ) (torn : List ℕ) (bad : Bool) (place : ℕ) (entries : List Entry)
-  → (with_records (made content true whole torn bad) (placed_records place entries)).content ≡ with_entries content entries
+    → (with_records (made content true whole torn bad) (placed_records place entries)).content ≡ with_entries content entries
 placed_whole content whole torn bad place entries =
     let all : take (length entries) (placed_records place entries) ≡ placed_records place entries =
-        ap (λ (n : ℕ). take n (placed_records place entries)) (sym (length_placed place entries)) ∙ take_all (placed_records place entries) in
+    ap (λ (n : ℕ). take n (placed_records place entries)) (sym (length_placed place entries)) ∙ take_all (placed_records place entries) in
     ap (λ (t : List Record). (with_records (made content true whole torn bad) t).content) (sym all)
-      ∙ placed_part content whole torn bad place entries (length entries)
-      ∙ ap (with_entries content) (take_all entries)
+    ∙ placed_part content whole torn bad place entries (length entries)
+    ∙ ap (with_entries content) (take_all entries)
 
 added_of : (content : Loaded) (counted : Bool) (whole : ℕ) (torn : List ℕ) (bad : Bool) (entries : List Entry)
-  → length content.log + length entries + 1 < 2 ^ 64 → AllByRecursion FitsEntry entries
-  → IsAdded (made content counted whole torn bad) (add_records (made content counted whole torn bad) entries) entries
+    → length content.log + length entries + 1 < 2 ^ 64 → AllByRecursion FitsEntry entries
+    → IsAdded (made content counted whole torn bad) (add_records (made content counted whole torn bad) entries) entries
 added_of content counted whole torn bad [] room fits = record { stand = tt; whole = ap (with_log content) (sym (append_nil content.log)); part = part }
   where
     part : (count : ℕ) → (added : ℕ) × ((with_records (made content counted whole torn bad) (take count [])).content ≡ with_entries content (take added []))
@@ -124,5 +124,5 @@ added_of content false whole torn bad (e ∷ entries) room fits = record {
     part (suc n) = (n, placed_part content _ [] false (length content.log + 1) (e ∷ entries) n)
 
 pub entries_added : (j : Journal) (entries : List Entry) → length j.content.log + length entries + 1 < 2 ^ 64 → AllByRecursion FitsEntry entries
-  → IsAdded j (add_records j entries) entries
+    → IsAdded j (add_records j entries) entries
 entries_added j entries room fits = added_of j.content j.counted j.whole j.torn j.bad entries room fits

@@ -43,7 +43,7 @@ part_before (Err Part) more s = refl
 part_before (Err Wrong) more s = absurd cc
 
 pub feed-part : (j : Journal) (torn bytes : List ℕ) → HasRoom j → IsBytes (torn ++ bytes) → reading j (torn ++ bytes) ≡ Err Part
-  → fold fed (torn_to j torn) bytes ≡ torn_to j (torn ++ bytes)
+    → fold fed (torn_to j torn) bytes ≡ torn_to j (torn ++ bytes)
 feed-part j torn [] room fits e = ap (torn_to j) (sym (append_nil torn))
 feed-part j torn (b ∷ bytes) room fits e =
     let reads = record_reads j.counted (length j.content.log) room in
@@ -51,18 +51,18 @@ feed-part j torn (b ∷ bytes) room fits e =
     let whole : reading j ((torn ++ b ∷ []) ++ bytes) ≡ Err Part = ap (reading j) same ∙ e in
     let fits_all : IsBytes ((torn ++ b ∷ []) ++ bytes) = subst IsBytes (sym same) fits in
     let front : reading j (torn ++ b ∷ []) ≡ Err Part =
-        part_before (reading j (torn ++ b ∷ [])) bytes (subst (λ (r : Reading Record). Stays (reading j (torn ++ b ∷ [])) r bytes) whole
-          (reads.stable.stays (torn ++ b ∷ []) bytes (IsBytes-behind (torn ++ b ∷ []) bytes fits_all))) in
+    part_before (reading j (torn ++ b ∷ [])) bytes (subst (λ (r : Reading Record). Stays (reading j (torn ++ b ∷ [])) r bytes) whole
+    (reads.stable.stays (torn ++ b ∷ []) bytes (IsBytes-behind (torn ++ b ∷ []) bytes fits_all))) in
     let next : fed (torn_to j torn) b ≡ torn_to j (torn ++ b ∷ []) = fed-torn j torn b ∙ ap (with_torn (torn_to j torn) (torn ++ b ∷ [])) front in
     ap (λ (k : Journal). fold fed k bytes) next
-      ∙ feed-part j (torn ++ b ∷ []) bytes room fits_all whole
-      ∙ ap (torn_to j) same
+    ∙ feed-part j (torn ++ b ∷ []) bytes room fits_all whole
+    ∙ ap (torn_to j) same
 
 -- ---- a whole record
 
 pub feed-whole : (j : Journal) (r : Record) (torn : List ℕ) (b : ℕ) (bytes : List ℕ) → HasRoom j → FitsRecord j.counted (length j.content.log) r
-  → IsBytes (record_bytes r) → torn ++ (b ∷ bytes) ≡ record_bytes r
-  → fold fed (torn_to j torn) (b ∷ bytes) ≡ with_record j r (length (record_bytes r))
+    → IsBytes (record_bytes r) → torn ++ (b ∷ bytes) ≡ record_bytes r
+    → fold fed (torn_to j torn) (b ∷ bytes) ≡ with_record j r (length (record_bytes r))
 feed-whole j r torn b [] room fits are_bytes same =
     let reads = record_reads j.counted (length j.content.log) room in
     let read : reading j (torn ++ b ∷ []) ≡ ok (r, []) = ap (reading j) (same ∙ sym (append_nil (record_bytes r))) ∙ reads.again r [] fits in
@@ -99,23 +99,23 @@ bad_now : Journal → List ℕ → Journal
 bad_now j torn = with_torn j torn (Err Wrong)
 
 front_reading : (j : Journal) (torn : List ℕ) (b : ℕ) (bytes : List ℕ) → HasRoom j → IsBytes (torn ++ (b ∷ bytes)) → reading j (torn ++ (b ∷ bytes)) ≡ Err Wrong
-  → (reading j (torn ++ b ∷ []) ≡ Err Part) ⊎ (reading j (torn ++ b ∷ []) ≡ Err Wrong)
+    → (reading j (torn ++ b ∷ []) ≡ Err Part) ⊎ (reading j (torn ++ b ∷ []) ≡ Err Wrong)
 front_reading j torn b bytes room fits e =
     let reads = record_reads j.counted (length j.content.log) room in
     let whole : reading j ((torn ++ b ∷ []) ++ bytes) ≡ Err Wrong = ap (reading j) (one_more torn b bytes) ∙ e in
     let fits_all : IsBytes ((torn ++ b ∷ []) ++ bytes) = subst IsBytes (sym (one_more torn b bytes)) fits in
     not_whole (reading j (torn ++ b ∷ [])) bytes
-      (subst (λ (r : Reading Record). Stays (reading j (torn ++ b ∷ [])) r bytes) whole (reads.stable.stays (torn ++ b ∷ []) bytes (IsBytes-behind (torn ++ b ∷ []) bytes fits_all)))
+    (subst (λ (r : Reading Record). Stays (reading j (torn ++ b ∷ [])) r bytes) whole (reads.stable.stays (torn ++ b ∷ []) bytes (IsBytes-behind (torn ++ b ∷ []) bytes fits_all)))
 
 wrong_now : (j : Journal) (torn : List ℕ) (b : ℕ) (bytes : List ℕ) → reading j (torn ++ b ∷ []) ≡ Err Wrong → IsBadAfter j (fold fed (torn_to j torn) (b ∷ bytes))
 unfolding bad_now
 wrong_now j torn b bytes wrong =
     let next : fed (torn_to j torn) b ≡ bad_now (torn_to j torn) (torn ++ b ∷ []) = fed-torn j torn b ∙ ap (with_torn (torn_to j torn) (torn ++ b ∷ [])) wrong in
     subst (λ (k : Journal). IsBadAfter j (fold fed k bytes)) (sym next)
-      (subst (λ (k : Journal). IsBadAfter j k) (sym (stays_bad (bad_now (torn_to j torn) (torn ++ b ∷ [])) bytes refl)) (record { bad = refl; whole = refl; content = refl; counted = refl }))
+    (subst (λ (k : Journal). IsBadAfter j k) (sym (stays_bad (bad_now (torn_to j torn) (torn ++ b ∷ [])) bytes refl)) (record { bad = refl; whole = refl; content = refl; counted = refl }))
 
 pub feed-wrong : (j : Journal) (torn : List ℕ) (b : ℕ) (bytes : List ℕ) → HasRoom j → IsBytes (torn ++ (b ∷ bytes)) → reading j (torn ++ (b ∷ bytes)) ≡ Err Wrong
-  → IsBadAfter j (fold fed (torn_to j torn) (b ∷ bytes))
+    → IsBadAfter j (fold fed (torn_to j torn) (b ∷ bytes))
 feed-wrong j torn b [] room fits e = wrong_now j torn b [] e
 feed-wrong j torn b (c ∷ bytes) room fits e =
     elim (front_reading j torn b (c ∷ bytes) room fits e) [
@@ -123,6 +123,6 @@ feed-wrong j torn b (c ∷ bytes) room fits e =
           let next : fed (torn_to j torn) b ≡ torn_to j (torn ++ b ∷ []) = fed-torn j torn b ∙ ap (with_torn (torn_to j torn) (torn ++ b ∷ [])) part in
           let same = one_more torn b (c ∷ bytes) in
           subst (λ (k : Journal). IsBadAfter j (fold fed k (c ∷ bytes))) (sym next)
-            (feed-wrong j (torn ++ b ∷ []) c bytes room (subst IsBytes (sym same) fits) (ap (reading j) same ∙ e))
+          (feed-wrong j (torn ++ b ∷ []) c bytes room (subst IsBytes (sym same) fits) (ap (reading j) same ∙ e))
       | inr wrong ↦ wrong_now j torn b (c ∷ bytes) wrong
     ]

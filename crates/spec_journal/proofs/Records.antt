@@ -19,13 +19,13 @@ vote_reads : Reads vote_at vote_bytes IsVote
 vote_reads = record {
   again = vote_again;
   exact = exact_bind _ (small_reads 0 9 (omega arith)).exact (λ node fn. exact_if (nat_eq node 0)
-    (λ same. exact_ok None (ap (λ (n : ℕ). n ∷ []) (eqb-true node 0 same)) tt)
-    (λ other. let ne : node ≡ 0 → ⊥ = eqb-false node 0 other in exact_ok (Some node) refl (omega arith, fn.1)));
+      (λ same. exact_ok None (ap (λ (n : ℕ). n ∷ []) (eqb-true node 0 same)) tt)
+      (λ other. let ne : node ≡ 0 → ⊥ = eqb-false node 0 other in exact_ok (Some node) refl (omega arith, fn.1)));
   stable = stable_bind _ (small_reads 0 9 (omega arith)).stable (λ node. stable_if (nat_eq node 0) (stable_ok None) (stable_ok (Some node)));
 }
 
 record_again : (counted : Bool) (entries : ℕ) → entries + 1 < 2 ^ 64 → (x : Record) (rest : List ℕ) → FitsRecord counted entries x
-  → record_at counted entries (record_bytes x ++ rest) ≡ Ok (x, rest)
+    → record_at counted entries (record_bytes x ++ rest) ≡ Ok (x, rest)
 unfolding record_at
 record_again counted entries lt (Vote term vote) rest (ft, fv) = again_two Vote u64_reads vote_reads term vote rest ft fv
 record_again counted entries lt (Cut last) rest fits = again_one Cut u64_reads last rest fits
@@ -37,17 +37,17 @@ record_again true entries lt (Placed place entry) rest (fc, same, fe) = again_tw
 record_again false entries lt (Placed place entry) rest (fc, same, fe) = absurd cc
 
 placed_exact : (counted : Bool) (entries : ℕ) → entries + 1 < 2 ^ 64
-  → IsExact record_bytes (FitsRecord counted entries) (0x15 ∷ []) (λ bytes. cond counted (two_fields (within_at (entries + 1) (entries + 1)) entry_at Placed bytes) (Err Wrong))
+    → IsExact record_bytes (FitsRecord counted entries) (0x15 ∷ []) (λ bytes. cond counted (two_fields (within_at (entries + 1) (entries + 1)) entry_at Placed bytes) (Err Wrong))
 placed_exact true entries lt = exact_two Placed (within_reads (entries + 1) (entries + 1) lt) entry_reads (λ a b. refl) (λ a b fa fb. (refl, omega arith, fb))
 placed_exact false entries lt = exact_wrong
 
 count_exact : (counted : Bool) (entries : ℕ) → entries + 1 < 2 ^ 64
-  → IsExact record_bytes (FitsRecord counted entries) (0x14 ∷ []) (λ bytes. cond counted (Err Wrong) (one_field (within_at entries entries) Count bytes))
+    → IsExact record_bytes (FitsRecord counted entries) (0x14 ∷ []) (λ bytes. cond counted (Err Wrong) (one_field (within_at entries entries) Count bytes))
 count_exact true entries lt = exact_wrong
 count_exact false entries lt = exact_one Count (within_reads entries entries (omega arith)) (λ a. refl) (λ a fa. (refl, omega arith))
 
 plain_exact : (counted : Bool) (entries : ℕ)
-  → IsExact record_bytes (FitsRecord counted entries) (0x13 ∷ []) (λ bytes. cond counted (Err Wrong) (one_field entry_at Plain bytes))
+    → IsExact record_bytes (FitsRecord counted entries) (0x13 ∷ []) (λ bytes. cond counted (Err Wrong) (one_field entry_at Plain bytes))
 plain_exact true entries = exact_wrong
 plain_exact false entries = exact_one Plain entry_reads (λ a. refl) (λ a fa. (refl, fa))
 
@@ -56,17 +56,17 @@ unfolding record_at
 record_reads counted entries lt = record {
   again = record_again counted entries lt;
   exact = exact_bind _ exact_byte (λ n fn.
-    exact_tag n 0x11 (exact_two Vote u64_reads vote_reads (λ a b. refl) (λ a b fa fb. (fa, fb))) (
-    exact_tag n 0x12 (exact_one Cut u64_reads (λ a. refl) (λ a fa. fa)) (
-    exact_tag n 0x13 (plain_exact counted entries) (
-    exact_tag n 0x14 (count_exact counted entries lt) (
-    exact_tag n 0x15 (placed_exact counted entries lt)
-    exact_wrong)))));
+      exact_tag n 0x11 (exact_two Vote u64_reads vote_reads (λ a b. refl) (λ a b fa fb. (fa, fb))) (
+      exact_tag n 0x12 (exact_one Cut u64_reads (λ a. refl) (λ a fa. fa)) (
+      exact_tag n 0x13 (plain_exact counted entries) (
+      exact_tag n 0x14 (count_exact counted entries lt) (
+      exact_tag n 0x15 (placed_exact counted entries lt)
+      exact_wrong)))));
   stable = stable_bind _ stable_byte (λ n.
-    stable_if (nat_eq n 0x11) (stable_two Vote u64_reads.stable vote_reads.stable) (
-    stable_if (nat_eq n 0x12) (stable_one Cut u64_reads.stable) (
-    stable_if (nat_eq n 0x13) (stable_if counted stable_wrong (stable_one Plain entry_reads.stable)) (
-    stable_if (nat_eq n 0x14) (stable_if counted stable_wrong (stable_one Count (within_reads entries entries (omega arith)).stable)) (
-    stable_if (nat_eq n 0x15) (stable_if counted (stable_two Placed (within_reads (entries + 1) (entries + 1) lt).stable entry_reads.stable) stable_wrong)
-    stable_wrong)))));
+      stable_if (nat_eq n 0x11) (stable_two Vote u64_reads.stable vote_reads.stable) (
+      stable_if (nat_eq n 0x12) (stable_one Cut u64_reads.stable) (
+      stable_if (nat_eq n 0x13) (stable_if counted stable_wrong (stable_one Plain entry_reads.stable)) (
+      stable_if (nat_eq n 0x14) (stable_if counted stable_wrong (stable_one Count (within_reads entries entries (omega arith)).stable)) (
+      stable_if (nat_eq n 0x15) (stable_if counted (stable_two Placed (within_reads (entries + 1) (entries + 1) lt).stable entry_reads.stable) stable_wrong)
+      stable_wrong)))));
 }

@@ -76,8 +76,8 @@ pub record IsBadAfter (j k : Journal) : Type 0 where
 -- the journal with one byte more
 unfoldable pub fed : Journal → ℕ → Journal
 fed j byte =
-  if j.bad then j
-  else with_torn j (j.torn ++ byte ∷ []) (record_at j.counted (length j.content.log) (j.torn ++ byte ∷ []))
+    if j.bad then j
+    else with_torn j (j.torn ++ byte ∷ []) (record_at j.counted (length j.content.log) (j.torn ++ byte ∷ []))
 
 -- the journal of these bytes
 abbrev pub journal_of : List ℕ → Journal
@@ -134,7 +134,7 @@ abbrev pub StandBehind : Journal → List Record → Type 0
 StandBehind j [] = Unit {0}
 StandBehind j (r ∷ records) =
     (length j.content.log + 1 < 2 ^ 64) × FitsRecord j.counted (length j.content.log) r
-      × StandBehind (with_record j r (length (record_bytes r))) records
+    × StandBehind (with_record j r (length (record_bytes r))) records
 
 -- the journal k is j with the first `count` of these records whole, and with less than the next one behind them
 pub record IsTornAppend (j : Journal) (records : List Record) (k : Journal) : Type 0 where

@@ -53,8 +53,8 @@ unfoldable pub record_at : Bool → ℕ → List ℕ → Reading Record
 record_at counted entries bytes = do
   kind ← byte_at bytes
   if nat_eq kind.0 0x11 then two_fields u64_at vote_at Vote kind.1 else
-    if nat_eq kind.0 0x12 then one_field u64_at Cut kind.1 else
-    if nat_eq kind.0 0x13 then (if counted then Err Wrong else one_field entry_at Plain kind.1) else
-    if nat_eq kind.0 0x14 then (if counted then Err Wrong else one_field (within_at entries entries) Count kind.1) else
-    if nat_eq kind.0 0x15 then (if counted then two_fields (within_at (entries + 1) (entries + 1)) entry_at Placed kind.1 else Err Wrong) else
-    Err Wrong
+      if nat_eq kind.0 0x12 then one_field u64_at Cut kind.1 else
+      if nat_eq kind.0 0x13 then (if counted then Err Wrong else one_field entry_at Plain kind.1) else
+      if nat_eq kind.0 0x14 then (if counted then Err Wrong else one_field (within_at entries entries) Count kind.1) else
+      if nat_eq kind.0 0x15 then (if counted then two_fields (within_at (entries + 1) (entries + 1)) entry_at Placed kind.1 else Err Wrong) else
+      Err Wrong

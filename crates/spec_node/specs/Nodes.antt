@@ -133,10 +133,11 @@ each_other n = others n.ballot.nodes n.ballot.me
 abbrev pub candidate : Node → Node
 candidate n = record n { ballot = begun n.ballot; role = Candidate; leader = None; leading = not_leading }
 
+abbrev pub vote_requests : Node → List Packet
+vote_requests c = map (λ k. to_node c k (payload.Vote c.ballot.term (length c.log) (last_term c.log))) (each_other c)
+
 abbrev pub elected : Node → ℕ → Did
-elected n clock = let c = candidate n in
-    if is_elected c.ballot then led c clock
-    else sending c (map (λ k. to_node c k (payload.Vote c.ballot.term (length c.log) (last_term c.log))) (each_other c))
+elected n clock = let c = candidate n in if is_elected c.ballot then led c clock else sending c (vote_requests c)
 
 -- a new round, sent to each other node (beat; Ongaro 2014, 3.5 and 6.4)
 abbrev pub ticked : Node → Node

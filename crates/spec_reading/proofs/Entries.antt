@@ -1,28 +1,17 @@
 -- The readers of entries and payloads read what is spelled, and nothing else.
-use Rattle.std.proofs.Common.{◌≡◌, ℕ, ◌+◌, ◌<◌, ◌≤◌, Bool, true, false, List, [], ◌∷◌, ◌++◌, length, Ok, refl, sym, ap, subst, append_assoc, nat_eq, arith, ◌∙◌, leb, ltb}
-use Rattle.std.specs.Prelude.{◌^◌, IsTrue, ◌&&◌}
-use Rattle.std.specs.List.{flat_map, AllByRecursion}
-use Rattle.std.proofs.lemmas.Bool.{ltb-true, lt-ltb, leb-true, le-leb, eqb-true, eqb-false, eq-eqb, ne_eqb}
+use Rattle.std.proofs.Common.{◌≡◌, ℕ, List, [], ◌∷◌, ◌++◌, Ok, refl, ap, append_assoc, nat_eq, ◌∙◌}
 use Rattle.ax_types.specs.declared.entries.Body.{Body}
 use Rattle.ax_types.specs.declared.entries.Body.TheVariants as body
 use Rattle.ax_types.specs.declared.entries.Entry.{Entry}
 use Rattle.ax_types.specs.declared.ops.Op.{Op}
-use Rattle.ax_types.specs.declared.ops.Level.{Level}
-use Rattle.ax_types.specs.declared.ops.Level.TheVariants.{Seq, Lin}
-use Rattle.ax_types.specs.declared.replies.How.{How}
-use Rattle.ax_types.specs.declared.replies.How.TheVariants.{Closed, Expired}
-use Rattle.ax_types.specs.declared.replies.Event.{Event}
-use Rattle.spec_wire.specs.Numbers.{u32_bytes, u64_bytes, counted_bytes, truth_bytes}
-use Rattle.spec_wire.specs.Ranges.{IsNumber, IsClient, IsName, FitsOp, FitsBody, FitsEntry, FitsEvent}
-use Rattle.spec_wire.specs.Resources.{op_bytes, event_bytes}
-use Rattle.spec_wire.specs.Spelling.{body_bytes, entry_bytes, reach_is_spelled}
-use Rattle.spec_reading.specs.Reading.{IsBytes, Reading, ◌>>=◌, Wrong, byte_at, many_at, u64_at, client_at, name_at, within_at}
-use Rattle.spec_reading.specs.Operations.{op_at}
-use Rattle.spec_reading.specs.Packets.{command_fields, keep_fields, body_at, entry_at, level_at, how_at, reach_at, events_at}
-use Rattle.spec_reading.proofs.Readers.{Reads, IsStable, IsExact, exact_bind, exact_ok, exact_as, exact_wrong, exact_if, exact_tag, exact_byte, exact_one, exact_two, exact_three, stable_bind, stable_ok, stable_wrong, stable_if, stable_byte, stable_one, stable_two, stable_three, again_one, again_two, again_three, again_bind, many_reads, AreMany}
-use Rattle.spec_reading.proofs.Fields.{name_reads, text_reads, i64_reads, u64_reads, u32_reads, client_reads, truth_reads, within_reads}
+use Rattle.spec_wire.specs.Numbers.{u64_bytes, counted_bytes}
+use Rattle.spec_wire.specs.Ranges.{IsNumber, IsClient, IsName, FitsOp, FitsBody, FitsEntry}
+use Rattle.spec_wire.specs.Resources.{op_bytes}
+use Rattle.spec_wire.specs.Spelling.{body_bytes, entry_bytes}
+use Rattle.spec_reading.specs.Packets.{command_fields, keep_fields, body_at, entry_at}
+use Rattle.spec_reading.proofs.Readers.{Reads, IsStable, IsExact, exact_bind, exact_ok, exact_wrong, exact_tag, exact_byte, exact_one, exact_two, stable_bind, stable_ok, stable_wrong, stable_if, stable_byte, stable_one, stable_two, again_one, again_two, again_bind}
+use Rattle.spec_reading.proofs.Fields.{name_reads, u64_reads, client_reads}
 use Rattle.spec_reading.proofs.Operations.{op_reads}
-use Rattle.spec_reading.proofs.Answers.{event_reads}
 
 -- ---- fields that bodies and payloads share
 
@@ -35,32 +24,32 @@ spelled_keep number client session answered heard =
     number ∷ client ∷ u64_bytes session ++ u64_bytes answered ++ u64_bytes heard
 
 pub again_command : {V : Type 0} (make : ℕ → ℕ → ℕ → List ℕ → Op → V) (client session seq : ℕ) (name : List ℕ) (op : Op) (rest : List ℕ)
-  → IsClient client → IsNumber session → IsNumber seq → IsName name → FitsOp op
-  → command_fields make ((client ∷ []) ++ u64_bytes session ++ u64_bytes seq ++ counted_bytes name ++ op_bytes op ++ rest) ≡ Ok (make client session seq name op, rest)
+    → IsClient client → IsNumber session → IsNumber seq → IsName name → FitsOp op
+    → command_fields make ((client ∷ []) ++ u64_bytes session ++ u64_bytes seq ++ counted_bytes name ++ op_bytes op ++ rest) ≡ Ok (make client session seq name op, rest)
 again_command make client session seq name op rest f_client f_session f_seq f_name f_op =
     let flat : u64_bytes session ++ u64_bytes seq ++ counted_bytes name ++ op_bytes op ++ rest ≡ u64_bytes session ++ (u64_bytes seq ++ (counted_bytes name ++ (op_bytes op ++ rest))) = simp append_assoc in
     ap (λ (t : List ℕ). command_fields make (client ∷ t)) flat
-      ∙ again_bind _ client _ _ client_reads f_client ((again_bind _ session _ _ u64_reads f_session (again_bind _ seq _ _ u64_reads f_seq (again_bind _ name _ _ name_reads f_name (again_bind _ op _ _ op_reads f_op refl)))))
+    ∙ again_bind _ client _ _ client_reads f_client ((again_bind _ session _ _ u64_reads f_session (again_bind _ seq _ _ u64_reads f_seq (again_bind _ name _ _ name_reads f_name (again_bind _ op _ _ op_reads f_op refl)))))
 
 pub again_keep : {V : Type 0} (make : ℕ → ℕ → ℕ → ℕ → V) (client session answered heard : ℕ) (rest : List ℕ)
-  → IsClient client → IsNumber session → IsNumber answered → IsNumber heard
-  → keep_fields make ((client ∷ []) ++ u64_bytes session ++ u64_bytes answered ++ u64_bytes heard ++ rest) ≡ Ok (make client session answered heard, rest)
+    → IsClient client → IsNumber session → IsNumber answered → IsNumber heard
+    → keep_fields make ((client ∷ []) ++ u64_bytes session ++ u64_bytes answered ++ u64_bytes heard ++ rest) ≡ Ok (make client session answered heard, rest)
 again_keep make client session answered heard rest f_client f_session f_answered f_heard =
     let flat : u64_bytes session ++ u64_bytes answered ++ u64_bytes heard ++ rest ≡ u64_bytes session ++ (u64_bytes answered ++ (u64_bytes heard ++ rest)) = simp append_assoc in
     ap (λ (t : List ℕ). keep_fields make (client ∷ t)) flat
-      ∙ again_bind _ client _ _ client_reads f_client ((again_bind _ session _ _ u64_reads f_session (again_bind _ answered _ _ u64_reads f_answered (again_bind _ heard _ _ u64_reads f_heard refl))))
+    ∙ again_bind _ client _ _ client_reads f_client ((again_bind _ session _ _ u64_reads f_session (again_bind _ answered _ _ u64_reads f_answered (again_bind _ heard _ _ u64_reads f_heard refl))))
 
 pub exact_command : {V : Type 0} {write : V → List ℕ} {Fits : V → Type 0} (number : ℕ) (make : ℕ → ℕ → ℕ → List ℕ → Op → V)
-  → ((client session seq : ℕ) (name : List ℕ) (op : Op) → spelled_command number client session seq name op ≡ write (make client session seq name op))
-  → ((client session seq : ℕ) (name : List ℕ) (op : Op) → IsClient client → IsNumber session → IsNumber seq → IsName name → FitsOp op → Fits (make client session seq name op))
-  → IsExact write Fits (number ∷ []) (command_fields make)
+    → ((client session seq : ℕ) (name : List ℕ) (op : Op) → spelled_command number client session seq name op ≡ write (make client session seq name op))
+    → ((client session seq : ℕ) (name : List ℕ) (op : Op) → IsClient client → IsNumber session → IsNumber seq → IsName name → FitsOp op → Fits (make client session seq name op))
+    → IsExact write Fits (number ∷ []) (command_fields make)
 exact_command number make same fits =
     exact_bind _ client_reads.exact (λ client f_client. exact_bind _ u64_reads.exact (λ session f_session. exact_bind _ u64_reads.exact (λ seq f_seq. exact_bind _ name_reads.exact (λ name f_name. exact_bind _ op_reads.exact (λ op f_op. exact_ok (make client session seq name op) (same client session seq name op) (fits client session seq name op f_client f_session f_seq f_name f_op))))))
 
 pub exact_keep : {V : Type 0} {write : V → List ℕ} {Fits : V → Type 0} (number : ℕ) (make : ℕ → ℕ → ℕ → ℕ → V)
-  → ((client session answered heard : ℕ) → spelled_keep number client session answered heard ≡ write (make client session answered heard))
-  → ((client session answered heard : ℕ) → IsClient client → IsNumber session → IsNumber answered → IsNumber heard → Fits (make client session answered heard))
-  → IsExact write Fits (number ∷ []) (keep_fields make)
+    → ((client session answered heard : ℕ) → spelled_keep number client session answered heard ≡ write (make client session answered heard))
+    → ((client session answered heard : ℕ) → IsClient client → IsNumber session → IsNumber answered → IsNumber heard → Fits (make client session answered heard))
+    → IsExact write Fits (number ∷ []) (keep_fields make)
 exact_keep number make same fits =
     exact_bind _ client_reads.exact (λ client f_client. exact_bind _ u64_reads.exact (λ session f_session. exact_bind _ u64_reads.exact (λ answered f_answered. exact_bind _ u64_reads.exact (λ heard f_heard. exact_ok (make client session answered heard) (same client session answered heard) (fits client session answered heard f_client f_session f_answered f_heard)))))
 
@@ -86,21 +75,21 @@ unfolding body_at
 body_reads = record {
   again = body_again;
   exact = exact_bind _ exact_byte (λ n fn.
-    exact_tag n 0 (exact_ok body.Blank refl tt) (
-    exact_tag n 1 (exact_two body.Register client_reads u64_reads (λ a b. refl) (λ a b fa fb. (fa, fb))) (
-    exact_tag n 2 (exact_keep 2 body.Keep (λ a b c d. refl) (λ a b c d fa fb fc fd. (fa, fb, fc, fd))) (
-    exact_tag n 3 (exact_command 3 body.Command (λ a b c d e. refl) (λ a b c d e fa fb fc fd fe. (fa, fb, fc, fd, fe))) (
-    exact_tag n 4 (exact_two body.Close client_reads u64_reads (λ a b. refl) (λ a b fa fb. (fa, fb))) (
-    exact_tag n 5 (exact_one body.Expire u64_reads (λ a. refl) (λ a fa. fa))
-    exact_wrong))))));
+      exact_tag n 0 (exact_ok body.Blank refl tt) (
+      exact_tag n 1 (exact_two body.Register client_reads u64_reads (λ a b. refl) (λ a b fa fb. (fa, fb))) (
+      exact_tag n 2 (exact_keep 2 body.Keep (λ a b c d. refl) (λ a b c d fa fb fc fd. (fa, fb, fc, fd))) (
+      exact_tag n 3 (exact_command 3 body.Command (λ a b c d e. refl) (λ a b c d e fa fb fc fd fe. (fa, fb, fc, fd, fe))) (
+      exact_tag n 4 (exact_two body.Close client_reads u64_reads (λ a b. refl) (λ a b fa fb. (fa, fb))) (
+      exact_tag n 5 (exact_one body.Expire u64_reads (λ a. refl) (λ a fa. fa))
+      exact_wrong))))));
   stable = stable_bind _ stable_byte (λ n.
-    stable_if (nat_eq n 0) (stable_ok body.Blank) (
-    stable_if (nat_eq n 1) (stable_two body.Register client_reads.stable u64_reads.stable) (
-    stable_if (nat_eq n 2) (stable_keep body.Keep) (
-    stable_if (nat_eq n 3) (stable_command body.Command) (
-    stable_if (nat_eq n 4) (stable_two body.Close client_reads.stable u64_reads.stable) (
-    stable_if (nat_eq n 5) (stable_one body.Expire u64_reads.stable)
-    stable_wrong))))));
+      stable_if (nat_eq n 0) (stable_ok body.Blank) (
+      stable_if (nat_eq n 1) (stable_two body.Register client_reads.stable u64_reads.stable) (
+      stable_if (nat_eq n 2) (stable_keep body.Keep) (
+      stable_if (nat_eq n 3) (stable_command body.Command) (
+      stable_if (nat_eq n 4) (stable_two body.Close client_reads.stable u64_reads.stable) (
+      stable_if (nat_eq n 5) (stable_one body.Expire u64_reads.stable)
+      stable_wrong))))));
 }
 
 abbrev make_entry : ℕ → ℕ → Body → Entry
@@ -116,6 +105,6 @@ unfolding entry_at
 entry_reads = record {
   again = entry_again;
   exact = exact_bind _ u64_reads.exact (λ term ft. exact_bind _ u64_reads.exact (λ time fi. exact_bind _ body_reads.exact (λ body fb.
-    exact_ok (make_entry term time body) refl (record { term = ft; time = fi; body = fb }))));
+      exact_ok (make_entry term time body) refl (record { term = ft; time = fi; body = fb }))));
   stable = stable_bind _ u64_reads.stable (λ term. stable_bind _ u64_reads.stable (λ time. stable_bind _ body_reads.stable (λ body. stable_ok (make_entry term time body))));
 }

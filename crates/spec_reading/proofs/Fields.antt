@@ -1,18 +1,18 @@
 -- The readers of single fields: numbers, letters and truth values.
-use Rattle.std.proofs.Common.{◌≡◌, ℕ, zero, suc, ◌+◌, ◌-◌, ◌<◌, ◌≤◌, Bool, true, false, cond, List, [], ◌∷◌, ◌++◌, length, get_or, take, drop, replicate, Result, Ok, Err, refl, sym, ap, subst, ◌∙◌, append_assoc, arith, nat_eq, ltb, leb, ◌⊎◌, inl, inr}
+use Rattle.std.proofs.Common.{◌≡◌, ℕ, zero, suc, ◌+◌, ◌-◌, ◌<◌, ◌≤◌, Bool, true, false, cond, List, [], ◌∷◌, ◌++◌, length, get_or, take, drop, replicate, Ok, Err, refl, sym, ap, subst, ◌∙◌, arith, nat_eq, ltb, leb, inl, inr}
 use Rattle.std.specs.Prelude.{◌^◌, ℤ, IsTrue, ◌&&◌, FitsSigned, pos, negsuc}
 use Rattle.std.specs.List.{list_all}
 use Rattle.ax_types.specs.Forms.{is_name_byte, is_text_byte}
-use Rattle.std.specs.Int.{w32, w64, from_be_bytes, to_be_bytes, cast_signed, cast_unsigned}
-use Rattle.std.proofs.lemmas.Bool.{cases_lt, ltb-false, ltb-true, le-ltb, lt-ltb, leb-true, leb-false, le-leb}
+use Rattle.std.specs.Int.{w32, w64, from_be_bytes, cast_signed, cast_unsigned}
+use Rattle.std.proofs.lemmas.Bool.{cases_lt, ltb-false, le-ltb, lt-ltb, leb-true, le-leb}
 use Rattle.std.proofs.lemmas.List.{take_at, drop_at, take-append-le, take-append-drop, length-append, length-take, get_or-drop, get_or-take, get_or_past, get_or_append_left, get_or-append_right, get_or-replicate}
 use Rattle.std.proofs.lemmas.Int.{of_z-to_z, to_z-of_z}
 use Rattle.std.proofs.lemmas.List.Folds.{list_all-append}
 use Rattle.std.proofs.lemmas.Nat.{be_bytes_4, be_bytes_8, from_be_bytes-to_be_bytes_4, from_be_bytes-to_be_bytes_8}
 use Rattle.spec_wire.specs.Numbers.{u64_bytes, u32_bytes, i64_bytes, truth_bytes, counted_bytes}
 use Rattle.spec_wire.specs.Ranges.{IsNumber, IsSigned, IsName, IsText, IsLife, IsClient}
-use Rattle.spec_reading.specs.Reading.{IsBytes, Fault, Part, Wrong, Reading, ◌>>=◌, byte_at, small_at, u64_at, u32_at, i64_at, within_at, padded_number, truth_at, client_at, letters_at, counted_at, name_at, text_at, life_at}
-use Rattle.spec_reading.proofs.Readers.{Stays, IsStable, IsExact, Reads, stable_bind, stable_ok, stable_wrong, stable_if, stable_byte, exact_bind, exact_ok, exact_wrong, exact_if, exact_byte, exact_tag}
+use Rattle.spec_reading.specs.Reading.{IsBytes, Fault, Part, Wrong, Reading, small_at, u64_at, u32_at, i64_at, within_at, padded_number, truth_at, client_at, letters_at, counted_at, name_at, text_at, life_at}
+use Rattle.spec_reading.proofs.Readers.{Stays, Reads, stable_bind, stable_ok, stable_wrong, stable_if, stable_byte, exact_bind, exact_ok, exact_wrong, exact_if, exact_byte, exact_tag}
 
 pub IsBytes-drop : (n : ℕ) (bytes : List ℕ) → IsBytes bytes → IsBytes (drop n bytes)
 IsBytes-drop n bytes h i = rw get_or-drop (h (n + i))
@@ -69,8 +69,8 @@ abbrev wide_at : (List ℕ → ℕ) → ℕ → List ℕ → Reading ℕ
 wide_at value len bytes = cond (ltb (length bytes) len) (Err Part) (Ok (value (take len bytes), drop len bytes))
 
 wide_exact : {write : ℕ → List ℕ} {value : List ℕ → ℕ} {len limit : ℕ} → IsWide write value len limit
-  → (bytes : List ℕ) (n : ℕ) (rest : List ℕ) → IsBytes bytes → wide_at value len bytes ≡ done (n, rest)
-  → (bytes ≡ write n ++ rest) × (n < limit) × IsBytes rest
+    → (bytes : List ℕ) (n : ℕ) (rest : List ℕ) → IsBytes bytes → wide_at value len bytes ≡ done (n, rest)
+    → (bytes ≡ write n ++ rest) × (n < limit) × IsBytes rest
 wide_exact {write} {value} {len} {limit} wide bytes n rest fits e =
     let g = guard_ok (ltb (length bytes) len) Part (value (take len bytes), drop len bytes) (n, rest) e in
     let long : len ≤ length bytes = ltb-false _ _ g.0 in
@@ -80,7 +80,7 @@ wide_exact {write} {value} {len} {limit} wide bytes n rest fits e =
     (rw (front, ← rest_is) (sym (take-append-drop len bytes)), rw (← n_is) (wide.below (take len bytes) (IsBytes-take len bytes fits)), rw (← rest_is) (IsBytes-drop len bytes fits))
 
 wide_again : {write : ℕ → List ℕ} {value : List ℕ → ℕ} {len limit : ℕ} → IsWide write value len limit
-  → (n : ℕ) (rest : List ℕ) → n < limit → wide_at value len (write n ++ rest) ≡ Ok (n, rest)
+    → (n : ℕ) (rest : List ℕ) → n < limit → wide_at value len (write n ++ rest) ≡ Ok (n, rest)
 wide_again {write} {value} {len} wide n rest lt =
     let is_len = wide.length_is n in
     let long : ltb (length (write n ++ rest)) len ≡ false = le-ltb _ _ (omega (arith, length-append (write n) rest)) in
@@ -127,9 +127,9 @@ pub i64_reads : Reads i64_at i64_bytes IsSigned
 unfolding i64_at i64_bytes u64_bytes
 i64_reads = record {
   again = λ z rest fits.
-    let small = unsigned_below z fits in
-    let e : u64_at (u64_bytes (cast_unsigned w64 z) ++ rest) ≡ Ok (cast_unsigned w64 z, rest) = u64_reads.again (cast_unsigned w64 z) rest small in
-    rw (e, to_z-of_z w64 z fits) refl;
+      let small = unsigned_below z fits in
+      let e : u64_at (u64_bytes (cast_unsigned w64 z) ++ rest) ≡ Ok (cast_unsigned w64 z, rest) = u64_reads.again (cast_unsigned w64 z) rest small in
+      rw (e, to_z-of_z w64 z fits) refl;
   exact = exact_bind _ u64_reads.exact (λ n fits. exact_ok (cast_signed w64 n) (ap u64_bytes (sym (of_z-to_z w64 n fits))) (fits_signed n fits));
   stable = stable_bind _ u64_reads.stable (λ n. stable_ok (cast_signed w64 n));
 }
@@ -157,8 +157,8 @@ pub small_reads : (least most : ℕ) → most < 256 → Reads (small_at least mo
 small_reads least most lt = record {
   again = λ b rest fits. rw (both (leb least b) (leb b most) (le-leb _ _ fits.0) (le-leb _ _ fits.1)) refl;
   exact = exact_bind _ exact_byte (λ b fits. exact_if (leb least b && leb b most)
-    (λ yes. let tests = and_true (leb least b) (leb b most) yes in exact_ok b refl (leb-true _ _ tests.0, leb-true _ _ tests.1))
-    (λ no. exact_wrong));
+      (λ yes. let tests = and_true (leb least b) (leb b most) yes in exact_ok b refl (leb-true _ _ tests.0, leb-true _ _ tests.1))
+      (λ no. exact_wrong));
   stable = stable_bind _ stable_byte (λ b. stable_if (leb least b && leb b most) (stable_ok b) stable_wrong);
 }
 
@@ -190,33 +190,37 @@ letters_stay test count bytes more =
       | inr le ↦
           let long : ltb (length (bytes ++ more)) count ≡ false = le-ltb _ _ (omega (arith, length-append bytes more)) in
           rw (long, le-ltb (length bytes) count le, take-append-le count bytes more le, drop-more count bytes more le)
-            (chosen (list_all test (take count bytes)))
+          (chosen (list_all test (take count bytes)))
     ]
   where
     chosen : (b : Bool) → Stays (cond b (done (take count bytes, drop count bytes)) (Err Wrong)) (cond b (done (take count bytes, drop count bytes ++ more)) (Err Wrong)) more
     chosen true = refl
     chosen false = refl
+
     by_front : (b c : Bool) (later : Reading (List ℕ)) → Stays (cond b (Err Part) (Err Wrong)) (cond (b && c) later (Err Wrong)) more
     by_front true c later = tt
     by_front false c later = refl
+
     short : length bytes < count → Stays (letters_at test count bytes) (letters_at test count (bytes ++ more)) more
     short lt =
         rw (take-short count bytes (omega arith), take-long count bytes more (omega arith), list_all-append test bytes (take (count - length bytes) more), lt-ltb (length bytes) count lt)
-          (by_front (list_all test bytes) (list_all test (take (count - length bytes) more)) _)
+        (by_front (list_all test bytes) (list_all test (take (count - length bytes) more)) _)
 
 pub letters_reads : (test : ℕ → Bool) (count : ℕ) → Reads (letters_at test count) (λ letters. letters) (AreLetters test count)
 unfolding letters_at
 letters_reads test count = record {
   again = λ letters rest fits.
-    let long : ltb (length (letters ++ rest)) count ≡ false = le-ltb _ _ (omega (arith, length-append letters rest, fits.0)) in
-    rw (take_at letters rest count fits.0, drop_at letters rest count fits.0, long, fits.1) refl;
-  exact = record { spelled = λ bytes letters rest fits e.
-    let outer = choice_ok (list_all test (take count bytes)) (cond (ltb (length bytes) count) (Err Part) (done (take count bytes, drop count bytes))) Wrong (letters, rest) e in
-    let inner = guard_ok (ltb (length bytes) count) Part (take count bytes, drop count bytes) (letters, rest) outer.1 in
-    let long : count ≤ length bytes = ltb-false _ _ inner.0 in
-    let len : length (take count bytes) ≡ count = omega (arith, length-take count bytes) in
-    subst (λ (z : List ℕ × List ℕ). (bytes ≡ z.0 ++ z.1) × AreLetters test count z.0 × IsBytes z.1) inner.1
-      (sym (take-append-drop count bytes), (len, outer.0), IsBytes-drop count bytes fits) };
+      let long : ltb (length (letters ++ rest)) count ≡ false = le-ltb _ _ (omega (arith, length-append letters rest, fits.0)) in
+      rw (take_at letters rest count fits.0, drop_at letters rest count fits.0, long, fits.1) refl;
+  exact = record {
+    spelled = λ bytes letters rest fits e.
+        let outer = choice_ok (list_all test (take count bytes)) (cond (ltb (length bytes) count) (Err Part) (done (take count bytes, drop count bytes))) Wrong (letters, rest) e in
+        let inner = guard_ok (ltb (length bytes) count) Part (take count bytes, drop count bytes) (letters, rest) outer.1 in
+        let long : count ≤ length bytes = ltb-false _ _ inner.0 in
+        let len : length (take count bytes) ≡ count = omega (arith, length-take count bytes) in
+        subst (λ (z : List ℕ × List ℕ). (bytes ≡ z.0 ++ z.1) × AreLetters test count z.0 × IsBytes z.1) inner.1
+        (sym (take-append-drop count bytes), (len, outer.0), IsBytes-drop count bytes fits);
+  };
   stable = record { stays = λ bytes more fits. letters_stay test count bytes more };
 }
 
@@ -228,16 +232,18 @@ counted_reads : (test : ℕ → Bool) (most : ℕ) → most < 256 → Reads (cou
 unfolding counted_at
 counted_reads test most lt = record {
   again = λ letters rest fits.
-    let count_is = (small_reads 1 most lt).again (length letters) (letters ++ rest) (fits.0, fits.1) in
-    rw (count_is) ((letters_reads test (length letters)).again letters rest (refl, fits.2));
-  exact = exact_bind _ (small_reads 1 most lt).exact (λ count fc. record { spelled = λ bytes letters rest fits e.
-    let r = (letters_reads test count).exact.spelled bytes letters rest fits e in
-    (rw r.1.0 (ap (λ (t : List ℕ). count ∷ t) r.0), (omega (arith, r.1.0, fc.0), omega (arith, r.1.0, fc.1), r.1.1), r.2) });
+      let count_is = (small_reads 1 most lt).again (length letters) (letters ++ rest) (fits.0, fits.1) in
+      rw (count_is) ((letters_reads test (length letters)).again letters rest (refl, fits.2));
+  exact = exact_bind _ (small_reads 1 most lt).exact (λ count fc. record {
+    spelled = λ bytes letters rest fits e.
+        let r = (letters_reads test count).exact.spelled bytes letters rest fits e in
+        (rw r.1.0 (ap (λ (t : List ℕ). count ∷ t) r.0), (omega (arith, r.1.0, fc.0), omega (arith, r.1.0, fc.1), r.1.1), r.2);
+  });
   stable = stable_bind _ (small_reads 1 most lt).stable (λ count. (letters_reads test count).stable);
 }
 
 pub reads_as : {A : Type 0} {f : List ℕ → Reading A} {write : A → List ℕ} {Fits Fits' : A → Type 0}
-  → ((x : A) → Fits x → Fits' x) → ((x : A) → Fits' x → Fits x) → Reads f write Fits → Reads f write Fits'
+    → ((x : A) → Fits x → Fits' x) → ((x : A) → Fits' x → Fits x) → Reads f write Fits → Reads f write Fits'
 reads_as there back r = record {
   again = λ x rest fits. r.again x rest (back x fits);
   exact = record { spelled = λ bytes x rest fits e. let s = r.exact.spelled bytes x rest fits e in (s.0, there x s.1, s.2) };
@@ -301,12 +307,12 @@ high-more bytes more fits i h =
 low-number-more : (bytes more : List ℕ) → padded_number 0 bytes ≤ padded_number 0 (bytes ++ more)
 low-number-more bytes more =
     value-le (take 8 (bytes ++ replicate 8 0)) (take 8 ((bytes ++ more) ++ replicate 8 0))
-      (λ i h. rw (padded_cell 0 bytes i h, padded_cell 0 (bytes ++ more) i h) (low-more bytes more i h))
+    (λ i h. rw (padded_cell 0 bytes i h, padded_cell 0 (bytes ++ more) i h) (low-more bytes more i h))
 
 high-number-more : (bytes more : List ℕ) → IsBytes more → padded_number 255 (bytes ++ more) ≤ padded_number 255 bytes
 high-number-more bytes more fits =
     value-le (take 8 ((bytes ++ more) ++ replicate 8 255)) (take 8 (bytes ++ replicate 8 255))
-      (λ i h. rw (padded_cell 255 bytes i h, padded_cell 255 (bytes ++ more) i h) (high-more bytes more fits i h))
+    (λ i h. rw (padded_cell 255 bytes i h, padded_cell 255 (bytes ++ more) i h) (high-more bytes more fits i h))
 
 abbrev is_possible : ℕ → ℕ → List ℕ → Bool
 is_possible least most bytes = leb least (padded_number 255 bytes) && leb (padded_number 0 bytes) most
@@ -331,20 +337,29 @@ within_stays least most bytes more fits =
       | inl lt ↦ rw (lt-ltb (length bytes) 8 lt) (short (is_possible least most bytes) refl)
       | inr le ↦
           let longer : 8 ≤ length (bytes ++ more) = omega (arith, length-append bytes more) in
-          rw (padded-long 255 bytes le, padded-long 0 bytes le, padded-long 255 (bytes ++ more) longer, padded-long 0 (bytes ++ more) longer,
-              take-append-le 8 bytes more le, le-ltb (length bytes) 8 le, le-ltb (length (bytes ++ more)) 8 longer, drop-more 8 bytes more le)
-            (chosen _ (leb least (from_be_bytes w64 (take 8 bytes)) && leb (from_be_bytes w64 (take 8 bytes)) most))
+          rw (
+            padded-long 255 bytes le,
+            padded-long 0 bytes le,
+            padded-long 255 (bytes ++ more) longer,
+            padded-long 0 (bytes ++ more) longer,
+            take-append-le 8 bytes more le,
+            le-ltb (length bytes) 8 le,
+            le-ltb (length (bytes ++ more)) 8 longer,
+            drop-more 8 bytes more le,
+          )
+          (chosen _ (leb least (from_be_bytes w64 (take 8 bytes)) && leb (from_be_bytes w64 (take 8 bytes)) most))
     ]
   where
     chosen : (n : ℕ) (b : Bool) → Stays (cond b (done (n, drop 8 bytes)) (Err Wrong)) (cond b (done (n, drop 8 bytes ++ more)) (Err Wrong)) more
     chosen n true = refl
     chosen n false = refl
+
     short : (b : Bool) → is_possible least most bytes ≡ b → Stays (cond b (Err Part) (Err Wrong)) (within_at least most (bytes ++ more)) more
     short true e = tt
     short false e = rw (impossible-more least most bytes more fits e) refl
 
 within-long : (least most : ℕ) (bytes : List ℕ) → 8 ≤ length bytes
-  → within_at least most bytes ≡ cond (leb least (from_be_bytes w64 (take 8 bytes)) && leb (from_be_bytes w64 (take 8 bytes)) most) (done (from_be_bytes w64 (take 8 bytes), drop 8 bytes)) (Err Wrong)
+    → within_at least most bytes ≡ cond (leb least (from_be_bytes w64 (take 8 bytes)) && leb (from_be_bytes w64 (take 8 bytes)) most) (done (from_be_bytes w64 (take 8 bytes), drop 8 bytes)) (Err Wrong)
 unfolding within_at
 within-long least most bytes le = rw (padded-long 255 bytes le, padded-long 0 bytes le, le-ltb (length bytes) 8 le) refl
 
@@ -359,22 +374,24 @@ within_short least most bytes y lt e = neither (is_possible least most bytes) (r
 pub within_reads : (least most : ℕ) → most < 2 ^ 64 → Reads (within_at least most) u64_bytes (λ n. (least ≤ n) × (n ≤ most))
 within_reads least most lt = record {
   again = λ n rest fits.
-    let len = wide64.length_is n in
-    let long : 8 ≤ length (u64_bytes n ++ rest) = omega (arith, length-append (u64_bytes n) rest) in
-    let below : n < 2 ^ 64 = omega arith in
-    within-long least most (u64_bytes n ++ rest) long
+      let len = wide64.length_is n in
+      let long : 8 ≤ length (u64_bytes n ++ rest) = omega (arith, length-append (u64_bytes n) rest) in
+      let below : n < 2 ^ 64 = omega arith in
+      within-long least most (u64_bytes n ++ rest) long
       ∙ rw (take_at (u64_bytes n) rest 8 len, drop_at (u64_bytes n) rest 8 len, wide64.again n below, both (leb least n) (leb n most) (le-leb _ _ fits.0) (le-leb _ _ fits.1)) refl;
-  exact = record { spelled = λ bytes n rest fits e.
-    elim (cases_lt (length bytes) 8) [
-      | inl short ↦ absurd (within_short least most bytes (n, rest) short e)
-      | inr long ↦
-          let value : ℕ = from_be_bytes w64 (take 8 bytes) in
-          let c = choice_ok (leb least value && leb value most) (done (value, drop 8 bytes)) Wrong (n, rest) (sym (within-long least most bytes long) ∙ e) in
-          let tests = and_true (leb least value) (leb value most) c.0 in
-          let front : u64_bytes value ≡ take 8 bytes = wide64.back (take 8 bytes) (omega (arith, length-take 8 bytes)) (IsBytes-take 8 bytes fits) in
-          subst (λ (z : ℕ × List ℕ). (bytes ≡ u64_bytes z.0 ++ z.1) × ((least ≤ z.0) × (z.0 ≤ most)) × IsBytes z.1) (done_is (value, drop 8 bytes) (n, rest) c.1)
-            (rw front (sym (take-append-drop 8 bytes)), (leb-true _ _ tests.0, leb-true _ _ tests.1), IsBytes-drop 8 bytes fits)
-    ] };
+  exact = record {
+    spelled = λ bytes n rest fits e.
+        elim (cases_lt (length bytes) 8) [
+          | inl short ↦ absurd (within_short least most bytes (n, rest) short e)
+          | inr long ↦
+              let value : ℕ = from_be_bytes w64 (take 8 bytes) in
+              let c = choice_ok (leb least value && leb value most) (done (value, drop 8 bytes)) Wrong (n, rest) (sym (within-long least most bytes long) ∙ e) in
+              let tests = and_true (leb least value) (leb value most) c.0 in
+              let front : u64_bytes value ≡ take 8 bytes = wide64.back (take 8 bytes) (omega (arith, length-take 8 bytes)) (IsBytes-take 8 bytes fits) in
+              subst (λ (z : ℕ × List ℕ). (bytes ≡ u64_bytes z.0 ++ z.1) × ((least ≤ z.0) × (z.0 ≤ most)) × IsBytes z.1) (done_is (value, drop 8 bytes) (n, rest) c.1)
+              (rw front (sym (take-append-drop 8 bytes)), (leb-true _ _ tests.0, leb-true _ _ tests.1), IsBytes-drop 8 bytes fits)
+        ];
+  };
   stable = record { stays = λ bytes more fits. within_stays least most bytes more fits };
 }
 

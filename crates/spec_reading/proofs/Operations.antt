@@ -1,5 +1,5 @@
 -- The readers of operations read what is spelled, and nothing else.
-use Rattle.std.proofs.Common.{◌≡◌, ℕ, List, [], ◌∷◌, ◌++◌, Ok, refl, nat_eq}
+use Rattle.std.proofs.Common.{◌≡◌, ℕ, List, ◌++◌, Ok, refl, nat_eq}
 use Rattle.ax_types.specs.declared.ops.MapOp.{MapOp}
 use Rattle.ax_types.specs.declared.ops.MapOp.TheVariants as map_op
 use Rattle.ax_types.specs.declared.ops.ValueOp.{ValueOp}
@@ -20,7 +20,7 @@ use Rattle.ax_types.specs.declared.ops.TopicOp.{TopicOp}
 use Rattle.ax_types.specs.declared.ops.TopicOp.TheVariants as topic_op
 use Rattle.ax_types.specs.declared.ops.Op.{Op}
 use Rattle.ax_types.specs.declared.ops.Op.TheVariants as op
-use Rattle.spec_wire.specs.Ranges.{IsName, IsText, IsSigned, IsNumber, IsLife, FitsMapOp, FitsValueOp, FitsLongOp, FitsSetOp, FitsQueueOp, FitsMultimapOp, FitsTopicOp, FitsOp}
+use Rattle.spec_wire.specs.Ranges.{FitsMapOp, FitsValueOp, FitsLongOp, FitsSetOp, FitsQueueOp, FitsMultimapOp, FitsTopicOp, FitsOp}
 use Rattle.spec_wire.specs.Resources.{map_op_bytes, value_op_bytes, long_op_bytes, lock_op_bytes, group_op_bytes, set_op_bytes, queue_op_bytes, multimap_op_bytes, topic_op_bytes, op_bytes}
 use Rattle.spec_reading.specs.Operations.{map_op_at, value_op_at, long_op_at, lock_op_at, group_op_at, set_op_at, queue_op_at, multimap_op_at, topic_op_at, op_at}
 use Rattle.spec_reading.proofs.Readers.{Reads, exact_bind, exact_ok, exact_wrong, exact_tag, exact_byte, exact_one, exact_two, exact_three, stable_bind, stable_ok, stable_wrong, stable_if, stable_byte, stable_one, stable_two, stable_three, again_one, again_two, again_three}
@@ -41,23 +41,23 @@ unfolding map_op_at
 map_op_reads = record {
   again = map_op_again;
   exact = exact_bind _ exact_byte (λ n fn.
-    exact_tag n 1 (exact_two map_op.Put name_reads text_reads (λ a b. refl) (λ a b fa fb. (fa, fb))) (
-    exact_tag n 2 (exact_two map_op.PutIfAbsent name_reads text_reads (λ a b. refl) (λ a b fa fb. (fa, fb))) (
-    exact_tag n 3 (exact_two map_op.Replace name_reads text_reads (λ a b. refl) (λ a b fa fb. (fa, fb))) (
-    exact_tag n 4 (exact_one map_op.Remove name_reads (λ a. refl) (λ a fa. fa)) (
-    exact_tag n 5 (exact_ok map_op.Clear refl tt) (
-    exact_tag n 6 (exact_ok map_op.Listen refl tt) (
-    exact_tag n 7 (exact_three map_op.PutFor name_reads text_reads life_reads (λ a b c. refl) (λ a b c fa fb fc. (fa, fb, fc))) (
-    exact_wrong))))))));
+      exact_tag n 1 (exact_two map_op.Put name_reads text_reads (λ a b. refl) (λ a b fa fb. (fa, fb))) (
+      exact_tag n 2 (exact_two map_op.PutIfAbsent name_reads text_reads (λ a b. refl) (λ a b fa fb. (fa, fb))) (
+      exact_tag n 3 (exact_two map_op.Replace name_reads text_reads (λ a b. refl) (λ a b fa fb. (fa, fb))) (
+      exact_tag n 4 (exact_one map_op.Remove name_reads (λ a. refl) (λ a fa. fa)) (
+      exact_tag n 5 (exact_ok map_op.Clear refl tt) (
+      exact_tag n 6 (exact_ok map_op.Listen refl tt) (
+      exact_tag n 7 (exact_three map_op.PutFor name_reads text_reads life_reads (λ a b c. refl) (λ a b c fa fb fc. (fa, fb, fc))) (
+      exact_wrong))))))));
   stable = stable_bind _ stable_byte (λ n.
-    stable_if (nat_eq n 1) (stable_two map_op.Put name_reads.stable text_reads.stable) (
-    stable_if (nat_eq n 2) (stable_two map_op.PutIfAbsent name_reads.stable text_reads.stable) (
-    stable_if (nat_eq n 3) (stable_two map_op.Replace name_reads.stable text_reads.stable) (
-    stable_if (nat_eq n 4) (stable_one map_op.Remove name_reads.stable) (
-    stable_if (nat_eq n 5) (stable_ok map_op.Clear) (
-    stable_if (nat_eq n 6) (stable_ok map_op.Listen) (
-    stable_if (nat_eq n 7) (stable_three map_op.PutFor name_reads.stable text_reads.stable life_reads.stable) (
-    stable_wrong))))))));
+      stable_if (nat_eq n 1) (stable_two map_op.Put name_reads.stable text_reads.stable) (
+      stable_if (nat_eq n 2) (stable_two map_op.PutIfAbsent name_reads.stable text_reads.stable) (
+      stable_if (nat_eq n 3) (stable_two map_op.Replace name_reads.stable text_reads.stable) (
+      stable_if (nat_eq n 4) (stable_one map_op.Remove name_reads.stable) (
+      stable_if (nat_eq n 5) (stable_ok map_op.Clear) (
+      stable_if (nat_eq n 6) (stable_ok map_op.Listen) (
+      stable_if (nat_eq n 7) (stable_three map_op.PutFor name_reads.stable text_reads.stable life_reads.stable) (
+      stable_wrong))))))));
 }
 
 value_op_again : (x : ValueOp) (rest : List ℕ) → FitsValueOp x → value_op_at (value_op_bytes x ++ rest) ≡ Ok (x, rest)
@@ -72,17 +72,17 @@ unfolding value_op_at
 value_op_reads = record {
   again = value_op_again;
   exact = exact_bind _ exact_byte (λ n fn.
-    exact_tag n 1 (exact_one value_op.Set text_reads (λ a. refl) (λ a fa. fa)) (
-    exact_tag n 2 (exact_two value_op.Cas text_reads text_reads (λ a b. refl) (λ a b fa fb. (fa, fb))) (
-    exact_tag n 3 (exact_ok value_op.Clear refl tt) (
-    exact_tag n 4 (exact_ok value_op.Listen refl tt) (
-    exact_wrong)))));
+      exact_tag n 1 (exact_one value_op.Set text_reads (λ a. refl) (λ a fa. fa)) (
+      exact_tag n 2 (exact_two value_op.Cas text_reads text_reads (λ a b. refl) (λ a b fa fb. (fa, fb))) (
+      exact_tag n 3 (exact_ok value_op.Clear refl tt) (
+      exact_tag n 4 (exact_ok value_op.Listen refl tt) (
+      exact_wrong)))));
   stable = stable_bind _ stable_byte (λ n.
-    stable_if (nat_eq n 1) (stable_one value_op.Set text_reads.stable) (
-    stable_if (nat_eq n 2) (stable_two value_op.Cas text_reads.stable text_reads.stable) (
-    stable_if (nat_eq n 3) (stable_ok value_op.Clear) (
-    stable_if (nat_eq n 4) (stable_ok value_op.Listen) (
-    stable_wrong)))));
+      stable_if (nat_eq n 1) (stable_one value_op.Set text_reads.stable) (
+      stable_if (nat_eq n 2) (stable_two value_op.Cas text_reads.stable text_reads.stable) (
+      stable_if (nat_eq n 3) (stable_ok value_op.Clear) (
+      stable_if (nat_eq n 4) (stable_ok value_op.Listen) (
+      stable_wrong)))));
 }
 
 long_op_again : (x : LongOp) (rest : List ℕ) → FitsLongOp x → long_op_at (long_op_bytes x ++ rest) ≡ Ok (x, rest)
@@ -97,17 +97,17 @@ unfolding long_op_at
 long_op_reads = record {
   again = long_op_again;
   exact = exact_bind _ exact_byte (λ n fn.
-    exact_tag n 1 (exact_one long_op.Add i64_reads (λ a. refl) (λ a fa. fa)) (
-    exact_tag n 2 (exact_one long_op.GetAndAdd i64_reads (λ a. refl) (λ a fa. fa)) (
-    exact_tag n 3 (exact_one long_op.Set i64_reads (λ a. refl) (λ a fa. fa)) (
-    exact_tag n 4 (exact_two long_op.Cas i64_reads i64_reads (λ a b. refl) (λ a b fa fb. (fa, fb))) (
-    exact_wrong)))));
+      exact_tag n 1 (exact_one long_op.Add i64_reads (λ a. refl) (λ a fa. fa)) (
+      exact_tag n 2 (exact_one long_op.GetAndAdd i64_reads (λ a. refl) (λ a fa. fa)) (
+      exact_tag n 3 (exact_one long_op.Set i64_reads (λ a. refl) (λ a fa. fa)) (
+      exact_tag n 4 (exact_two long_op.Cas i64_reads i64_reads (λ a b. refl) (λ a b fa fb. (fa, fb))) (
+      exact_wrong)))));
   stable = stable_bind _ stable_byte (λ n.
-    stable_if (nat_eq n 1) (stable_one long_op.Add i64_reads.stable) (
-    stable_if (nat_eq n 2) (stable_one long_op.GetAndAdd i64_reads.stable) (
-    stable_if (nat_eq n 3) (stable_one long_op.Set i64_reads.stable) (
-    stable_if (nat_eq n 4) (stable_two long_op.Cas i64_reads.stable i64_reads.stable) (
-    stable_wrong)))));
+      stable_if (nat_eq n 1) (stable_one long_op.Add i64_reads.stable) (
+      stable_if (nat_eq n 2) (stable_one long_op.GetAndAdd i64_reads.stable) (
+      stable_if (nat_eq n 3) (stable_one long_op.Set i64_reads.stable) (
+      stable_if (nat_eq n 4) (stable_two long_op.Cas i64_reads.stable i64_reads.stable) (
+      stable_wrong)))));
 }
 
 abbrev AnyLockOp : LockOp → Type 0
@@ -125,17 +125,17 @@ unfolding lock_op_at
 lock_op_reads = record {
   again = lock_op_again;
   exact = exact_bind _ exact_byte (λ n fn.
-    exact_tag n 1 (exact_ok lock_op.Lock refl tt) (
-    exact_tag n 2 (exact_ok lock_op.TryLock refl tt) (
-    exact_tag n 3 (exact_ok lock_op.Unlock refl tt) (
-    exact_tag n 4 (exact_ok lock_op.Cancel refl tt) (
-    exact_wrong)))));
+      exact_tag n 1 (exact_ok lock_op.Lock refl tt) (
+      exact_tag n 2 (exact_ok lock_op.TryLock refl tt) (
+      exact_tag n 3 (exact_ok lock_op.Unlock refl tt) (
+      exact_tag n 4 (exact_ok lock_op.Cancel refl tt) (
+      exact_wrong)))));
   stable = stable_bind _ stable_byte (λ n.
-    stable_if (nat_eq n 1) (stable_ok lock_op.Lock) (
-    stable_if (nat_eq n 2) (stable_ok lock_op.TryLock) (
-    stable_if (nat_eq n 3) (stable_ok lock_op.Unlock) (
-    stable_if (nat_eq n 4) (stable_ok lock_op.Cancel) (
-    stable_wrong)))));
+      stable_if (nat_eq n 1) (stable_ok lock_op.Lock) (
+      stable_if (nat_eq n 2) (stable_ok lock_op.TryLock) (
+      stable_if (nat_eq n 3) (stable_ok lock_op.Unlock) (
+      stable_if (nat_eq n 4) (stable_ok lock_op.Cancel) (
+      stable_wrong)))));
 }
 
 abbrev AnyGroupOp : GroupOp → Type 0
@@ -152,15 +152,15 @@ unfolding group_op_at
 group_op_reads = record {
   again = group_op_again;
   exact = exact_bind _ exact_byte (λ n fn.
-    exact_tag n 1 (exact_ok group_op.Join refl tt) (
-    exact_tag n 2 (exact_ok group_op.Leave refl tt) (
-    exact_tag n 3 (exact_ok group_op.Listen refl tt) (
-    exact_wrong))));
+      exact_tag n 1 (exact_ok group_op.Join refl tt) (
+      exact_tag n 2 (exact_ok group_op.Leave refl tt) (
+      exact_tag n 3 (exact_ok group_op.Listen refl tt) (
+      exact_wrong))));
   stable = stable_bind _ stable_byte (λ n.
-    stable_if (nat_eq n 1) (stable_ok group_op.Join) (
-    stable_if (nat_eq n 2) (stable_ok group_op.Leave) (
-    stable_if (nat_eq n 3) (stable_ok group_op.Listen) (
-    stable_wrong))));
+      stable_if (nat_eq n 1) (stable_ok group_op.Join) (
+      stable_if (nat_eq n 2) (stable_ok group_op.Leave) (
+      stable_if (nat_eq n 3) (stable_ok group_op.Listen) (
+      stable_wrong))));
 }
 
 set_op_again : (x : SetOp) (rest : List ℕ) → FitsSetOp x → set_op_at (set_op_bytes x ++ rest) ≡ Ok (x, rest)
@@ -174,15 +174,15 @@ unfolding set_op_at
 set_op_reads = record {
   again = set_op_again;
   exact = exact_bind _ exact_byte (λ n fn.
-    exact_tag n 1 (exact_one set_op.Add text_reads (λ a. refl) (λ a fa. fa)) (
-    exact_tag n 2 (exact_one set_op.Remove text_reads (λ a. refl) (λ a fa. fa)) (
-    exact_tag n 3 (exact_ok set_op.Clear refl tt) (
-    exact_wrong))));
+      exact_tag n 1 (exact_one set_op.Add text_reads (λ a. refl) (λ a fa. fa)) (
+      exact_tag n 2 (exact_one set_op.Remove text_reads (λ a. refl) (λ a fa. fa)) (
+      exact_tag n 3 (exact_ok set_op.Clear refl tt) (
+      exact_wrong))));
   stable = stable_bind _ stable_byte (λ n.
-    stable_if (nat_eq n 1) (stable_one set_op.Add text_reads.stable) (
-    stable_if (nat_eq n 2) (stable_one set_op.Remove text_reads.stable) (
-    stable_if (nat_eq n 3) (stable_ok set_op.Clear) (
-    stable_wrong))));
+      stable_if (nat_eq n 1) (stable_one set_op.Add text_reads.stable) (
+      stable_if (nat_eq n 2) (stable_one set_op.Remove text_reads.stable) (
+      stable_if (nat_eq n 3) (stable_ok set_op.Clear) (
+      stable_wrong))));
 }
 
 queue_op_again : (x : QueueOp) (rest : List ℕ) → FitsQueueOp x → queue_op_at (queue_op_bytes x ++ rest) ≡ Ok (x, rest)
@@ -195,13 +195,13 @@ unfolding queue_op_at
 queue_op_reads = record {
   again = queue_op_again;
   exact = exact_bind _ exact_byte (λ n fn.
-    exact_tag n 1 (exact_one queue_op.Offer text_reads (λ a. refl) (λ a fa. fa)) (
-    exact_tag n 2 (exact_ok queue_op.Poll refl tt) (
-    exact_wrong)));
+      exact_tag n 1 (exact_one queue_op.Offer text_reads (λ a. refl) (λ a fa. fa)) (
+      exact_tag n 2 (exact_ok queue_op.Poll refl tt) (
+      exact_wrong)));
   stable = stable_bind _ stable_byte (λ n.
-    stable_if (nat_eq n 1) (stable_one queue_op.Offer text_reads.stable) (
-    stable_if (nat_eq n 2) (stable_ok queue_op.Poll) (
-    stable_wrong)));
+      stable_if (nat_eq n 1) (stable_one queue_op.Offer text_reads.stable) (
+      stable_if (nat_eq n 2) (stable_ok queue_op.Poll) (
+      stable_wrong)));
 }
 
 multimap_op_again : (x : MultimapOp) (rest : List ℕ) → FitsMultimapOp x → multimap_op_at (multimap_op_bytes x ++ rest) ≡ Ok (x, rest)
@@ -215,15 +215,15 @@ unfolding multimap_op_at
 multimap_op_reads = record {
   again = multimap_op_again;
   exact = exact_bind _ exact_byte (λ n fn.
-    exact_tag n 1 (exact_two multimap_op.Put name_reads text_reads (λ a b. refl) (λ a b fa fb. (fa, fb))) (
-    exact_tag n 2 (exact_two multimap_op.Remove name_reads text_reads (λ a b. refl) (λ a b fa fb. (fa, fb))) (
-    exact_tag n 3 (exact_one multimap_op.RemoveAll name_reads (λ a. refl) (λ a fa. fa)) (
-    exact_wrong))));
+      exact_tag n 1 (exact_two multimap_op.Put name_reads text_reads (λ a b. refl) (λ a b fa fb. (fa, fb))) (
+      exact_tag n 2 (exact_two multimap_op.Remove name_reads text_reads (λ a b. refl) (λ a b fa fb. (fa, fb))) (
+      exact_tag n 3 (exact_one multimap_op.RemoveAll name_reads (λ a. refl) (λ a fa. fa)) (
+      exact_wrong))));
   stable = stable_bind _ stable_byte (λ n.
-    stable_if (nat_eq n 1) (stable_two multimap_op.Put name_reads.stable text_reads.stable) (
-    stable_if (nat_eq n 2) (stable_two multimap_op.Remove name_reads.stable text_reads.stable) (
-    stable_if (nat_eq n 3) (stable_one multimap_op.RemoveAll name_reads.stable) (
-    stable_wrong))));
+      stable_if (nat_eq n 1) (stable_two multimap_op.Put name_reads.stable text_reads.stable) (
+      stable_if (nat_eq n 2) (stable_two multimap_op.Remove name_reads.stable text_reads.stable) (
+      stable_if (nat_eq n 3) (stable_one multimap_op.RemoveAll name_reads.stable) (
+      stable_wrong))));
 }
 
 topic_op_again : (x : TopicOp) (rest : List ℕ) → FitsTopicOp x → topic_op_at (topic_op_bytes x ++ rest) ≡ Ok (x, rest)
@@ -237,15 +237,15 @@ unfolding topic_op_at
 topic_op_reads = record {
   again = topic_op_again;
   exact = exact_bind _ exact_byte (λ n fn.
-    exact_tag n 1 (exact_ok topic_op.Subscribe refl tt) (
-    exact_tag n 2 (exact_ok topic_op.Unsubscribe refl tt) (
-    exact_tag n 3 (exact_one topic_op.Publish text_reads (λ a. refl) (λ a fa. fa)) (
-    exact_wrong))));
+      exact_tag n 1 (exact_ok topic_op.Subscribe refl tt) (
+      exact_tag n 2 (exact_ok topic_op.Unsubscribe refl tt) (
+      exact_tag n 3 (exact_one topic_op.Publish text_reads (λ a. refl) (λ a fa. fa)) (
+      exact_wrong))));
   stable = stable_bind _ stable_byte (λ n.
-    stable_if (nat_eq n 1) (stable_ok topic_op.Subscribe) (
-    stable_if (nat_eq n 2) (stable_ok topic_op.Unsubscribe) (
-    stable_if (nat_eq n 3) (stable_one topic_op.Publish text_reads.stable) (
-    stable_wrong))));
+      stable_if (nat_eq n 1) (stable_ok topic_op.Subscribe) (
+      stable_if (nat_eq n 2) (stable_ok topic_op.Unsubscribe) (
+      stable_if (nat_eq n 3) (stable_one topic_op.Publish text_reads.stable) (
+      stable_wrong))));
 }
 
 op_again : (x : Op) (rest : List ℕ) → FitsOp x → op_at (op_bytes x ++ rest) ≡ Ok (x, rest)
@@ -265,26 +265,25 @@ unfolding op_at
 op_reads = record {
   again = op_again;
   exact = exact_bind _ exact_byte (λ n fn.
-    exact_tag n 1 (exact_one op.Map map_op_reads (λ a. refl) (λ a fa. fa)) (
-    exact_tag n 2 (exact_one op.Value value_op_reads (λ a. refl) (λ a fa. fa)) (
-    exact_tag n 3 (exact_one op.Long long_op_reads (λ a. refl) (λ a fa. fa)) (
-    exact_tag n 4 (exact_one op.Lock lock_op_reads (λ a. refl) (λ a fa. fa)) (
-    exact_tag n 5 (exact_one op.Group group_op_reads (λ a. refl) (λ a fa. fa)) (
-    exact_tag n 6 (exact_one op.Set set_op_reads (λ a. refl) (λ a fa. fa)) (
-    exact_tag n 7 (exact_one op.Queue queue_op_reads (λ a. refl) (λ a fa. fa)) (
-    exact_tag n 8 (exact_one op.Multimap multimap_op_reads (λ a. refl) (λ a fa. fa)) (
-    exact_tag n 9 (exact_one op.Topic topic_op_reads (λ a. refl) (λ a fa. fa)) (
-    exact_wrong))))))))));
+      exact_tag n 1 (exact_one op.Map map_op_reads (λ a. refl) (λ a fa. fa)) (
+      exact_tag n 2 (exact_one op.Value value_op_reads (λ a. refl) (λ a fa. fa)) (
+      exact_tag n 3 (exact_one op.Long long_op_reads (λ a. refl) (λ a fa. fa)) (
+      exact_tag n 4 (exact_one op.Lock lock_op_reads (λ a. refl) (λ a fa. fa)) (
+      exact_tag n 5 (exact_one op.Group group_op_reads (λ a. refl) (λ a fa. fa)) (
+      exact_tag n 6 (exact_one op.Set set_op_reads (λ a. refl) (λ a fa. fa)) (
+      exact_tag n 7 (exact_one op.Queue queue_op_reads (λ a. refl) (λ a fa. fa)) (
+      exact_tag n 8 (exact_one op.Multimap multimap_op_reads (λ a. refl) (λ a fa. fa)) (
+      exact_tag n 9 (exact_one op.Topic topic_op_reads (λ a. refl) (λ a fa. fa)) (
+      exact_wrong))))))))));
   stable = stable_bind _ stable_byte (λ n.
-    stable_if (nat_eq n 1) (stable_one op.Map map_op_reads.stable) (
-    stable_if (nat_eq n 2) (stable_one op.Value value_op_reads.stable) (
-    stable_if (nat_eq n 3) (stable_one op.Long long_op_reads.stable) (
-    stable_if (nat_eq n 4) (stable_one op.Lock lock_op_reads.stable) (
-    stable_if (nat_eq n 5) (stable_one op.Group group_op_reads.stable) (
-    stable_if (nat_eq n 6) (stable_one op.Set set_op_reads.stable) (
-    stable_if (nat_eq n 7) (stable_one op.Queue queue_op_reads.stable) (
-    stable_if (nat_eq n 8) (stable_one op.Multimap multimap_op_reads.stable) (
-    stable_if (nat_eq n 9) (stable_one op.Topic topic_op_reads.stable) (
-    stable_wrong))))))))));
+      stable_if (nat_eq n 1) (stable_one op.Map map_op_reads.stable) (
+      stable_if (nat_eq n 2) (stable_one op.Value value_op_reads.stable) (
+      stable_if (nat_eq n 3) (stable_one op.Long long_op_reads.stable) (
+      stable_if (nat_eq n 4) (stable_one op.Lock lock_op_reads.stable) (
+      stable_if (nat_eq n 5) (stable_one op.Group group_op_reads.stable) (
+      stable_if (nat_eq n 6) (stable_one op.Set set_op_reads.stable) (
+      stable_if (nat_eq n 7) (stable_one op.Queue queue_op_reads.stable) (
+      stable_if (nat_eq n 8) (stable_one op.Multimap multimap_op_reads.stable) (
+      stable_if (nat_eq n 9) (stable_one op.Topic topic_op_reads.stable) (
+      stable_wrong))))))))));
 }
-

@@ -1,5 +1,5 @@
 -- The readers of payloads read what is spelled, and nothing else.
-use Rattle.std.proofs.Common.{◌≡◌, ℕ, zero, suc, ◌+◌, ◌<◌, ◌≤◌, Bool, true, false, List, [], ◌∷◌, ◌++◌, length, Ok, refl, sym, ap, subst, append_assoc, nat_eq, arith, ◌∙◌, leb, ltb}
+use Rattle.std.proofs.Common.{◌≡◌, ℕ, ◌≤◌, Bool, true, List, [], ◌∷◌, ◌++◌, length, Ok, refl, ap, append_assoc, nat_eq, arith, ◌∙◌, leb, ltb}
 use Rattle.std.specs.Prelude.{◌^◌, IsTrue, ◌&&◌}
 use Rattle.std.specs.List.{flat_map, AllByRecursion}
 use Rattle.std.proofs.lemmas.Bool.{ltb-true, lt-ltb, leb-true, le-leb, eqb-true, eqb-false, eq-eqb, ne_eqb}
@@ -17,9 +17,8 @@ use Rattle.spec_wire.specs.Numbers.{u32_bytes, u64_bytes, counted_bytes, truth_b
 use Rattle.spec_wire.specs.Ranges.{IsNumber, IsClient, IsName, FitsEntry, FitsEvent, FitsQuery, FitsPayload}
 use Rattle.spec_wire.specs.Resources.{query_bytes, reply_bytes, event_bytes}
 use Rattle.spec_wire.specs.Spelling.{entry_bytes, payload_bytes, level_bytes, how_bytes, entries_bytes, events_bytes, reach_is_spelled, reply_is_spelled, is_spelled}
-use Rattle.spec_reading.specs.Reading.{IsBytes, Reading, ◌>>=◌, Wrong, many_at, u64_at, client_at, name_at, within_at}
 use Rattle.spec_reading.specs.Packets.{level_at, how_at, reach_at, append_at, append_reply_at, query_payload_at, reply_payload_at, answer_at, events_at, batch_at, payload_at}
-use Rattle.spec_reading.proofs.Readers.{Reads, IsStable, IsExact, exact_bind, exact_ok, exact_as, exact_wrong, exact_if, exact_tag, exact_byte, exact_one, exact_two, exact_three, stable_bind, stable_ok, stable_wrong, stable_if, stable_byte, stable_one, stable_two, stable_three, again_one, again_two, again_three, again_bind, many_reads, AreMany}
+use Rattle.spec_reading.proofs.Readers.{Reads, IsStable, IsExact, exact_bind, exact_ok, exact_as, exact_wrong, exact_if, exact_tag, exact_byte, exact_two, exact_three, stable_bind, stable_ok, stable_wrong, stable_if, stable_byte, stable_two, stable_three, again_two, again_three, again_bind, many_reads}
 use Rattle.spec_reading.proofs.Fields.{name_reads, u64_reads, u32_reads, client_reads, truth_reads, within_reads, small_reads, and_true, both}
 use Rattle.spec_reading.proofs.Queries.{query_reads}
 use Rattle.spec_reading.proofs.Answers.{event_reads, reply_reads, IsReply}
@@ -87,13 +86,13 @@ events_reads : Reads events_at events_bytes AreEvents
 unfolding events_at
 events_reads = record {
   again = λ events rest fits.
-    let tests = and_true (leb 1 (length events)) (ltb (length events) (2 ^ 32)) fits.1 in
-    let some : 1 ≤ length events = leb-true _ _ tests.0 in
-    let none : length events ≡ 0 → ⊥ = λ e. omega arith in
-    rw (append_assoc (u32_bytes (length events)) (flat_map event_bytes events) rest, u32_reads.again (length events) (flat_map event_bytes events ++ rest) (ltb-true _ _ tests.1), ne_eqb (length events) 0 none)
+      let tests = and_true (leb 1 (length events)) (ltb (length events) (2 ^ 32)) fits.1 in
+      let some : 1 ≤ length events = leb-true _ _ tests.0 in
+      let none : length events ≡ 0 → ⊥ = λ e. omega arith in
+      rw (append_assoc (u32_bytes (length events)) (flat_map event_bytes events) rest, u32_reads.again (length events) (flat_map event_bytes events ++ rest) (ltb-true _ _ tests.1), ne_eqb (length events) 0 none)
       ((many_reads (length events) event_reads).again events rest (refl, fits.0));
   exact = exact_bind _ u32_reads.exact (λ count fc. exact_if (nat_eq count 0) (λ none. exact_wrong) (λ some. exact_as (many_reads count event_reads).exact
-    (λ events fs.
+      (λ events fs.
       let other : count ≡ 0 → ⊥ = eqb-false count 0 some in
       let long : 1 ≤ length events = omega (arith, fs.0) in
       (rw fs.0 refl, (fs.1, both _ _ (le-leb 1 (length events) long) (lt-ltb (length events) (2 ^ 32) (omega (arith, fs.0, fc))))))));
@@ -107,31 +106,31 @@ abbrev pub IsPayload : Payload → Type 0
 IsPayload p = FitsPayload p × IsTrue (is_spelled p)
 
 append_again : (term prev prev_term commit round : ℕ) (entries : List Entry) (rest : List ℕ)
-  → IsNumber term → IsNumber prev → IsNumber prev_term → IsNumber commit → IsNumber round → AllByRecursion FitsEntry entries → length entries ≤ 16
-  → append_at (u64_bytes term ++ u64_bytes prev ++ u64_bytes prev_term ++ u64_bytes commit ++ u64_bytes round ++ entries_bytes entries ++ rest)
-      ≡ Ok (payload.Append term prev prev_term commit round entries, rest)
+    → IsNumber term → IsNumber prev → IsNumber prev_term → IsNumber commit → IsNumber round → AllByRecursion FitsEntry entries → length entries ≤ 16
+    → append_at (u64_bytes term ++ u64_bytes prev ++ u64_bytes prev_term ++ u64_bytes commit ++ u64_bytes round ++ entries_bytes entries ++ rest)
+    ≡ Ok (payload.Append term prev prev_term commit round entries, rest)
 unfolding append_at
 append_again term prev prev_term commit round entries rest ft fp fpt fc fr fe few = simp append_assoc
     (again_bind _ term _ _ u64_reads ft (again_bind _ prev _ _ u64_reads fp (again_bind _ prev_term _ _ u64_reads fpt (again_bind _ commit _ _ u64_reads fc (again_bind _ round _ _ u64_reads fr
-      (again_bind _ (length entries) _ _ (small_reads 0 16 (omega arith)) (omega arith, few) (again_bind _ entries _ _ (many_reads (length entries) entry_reads) (refl, fe) refl)))))))
+    (again_bind _ (length entries) _ _ (small_reads 0 16 (omega arith)) (omega arith, few) (again_bind _ entries _ _ (many_reads (length entries) entry_reads) (refl, fe) refl)))))))
 
 append_reply_again : (term : ℕ) (ok : Bool) (place : ℕ) (round : ℕ) (rest : List ℕ)
-  → IsNumber term → IsNumber place → IsNumber round
-  → append_reply_at (u64_bytes term ++ truth_bytes ok ++ u64_bytes place ++ u64_bytes round ++ rest) ≡ Ok (payload.AppendReply term ok place round, rest)
+    → IsNumber term → IsNumber place → IsNumber round
+    → append_reply_at (u64_bytes term ++ truth_bytes ok ++ u64_bytes place ++ u64_bytes round ++ rest) ≡ Ok (payload.AppendReply term ok place round, rest)
 unfolding append_reply_at
 append_reply_again term ok place round rest f_term f_place f_round = simp append_assoc
     (again_bind _ term _ _ u64_reads f_term (again_bind _ ok _ _ truth_reads tt (again_bind _ place _ _ u64_reads f_place (again_bind _ round _ _ u64_reads f_round refl))))
 
 reply_payload_again : (session : ℕ) (seq : ℕ) (place : ℕ) (events : ℕ) (reply : Reply) (rest : List ℕ)
-  → IsNumber session → IsNumber seq → IsNumber place → IsNumber events → IsReply reply
-  → reply_payload_at (u64_bytes session ++ u64_bytes seq ++ u64_bytes place ++ u64_bytes events ++ reply_bytes reply ++ rest) ≡ Ok (payload.Reply session seq place events reply, rest)
+    → IsNumber session → IsNumber seq → IsNumber place → IsNumber events → IsReply reply
+    → reply_payload_at (u64_bytes session ++ u64_bytes seq ++ u64_bytes place ++ u64_bytes events ++ reply_bytes reply ++ rest) ≡ Ok (payload.Reply session seq place events reply, rest)
 unfolding reply_payload_at
 reply_payload_again session seq place events reply rest f_session f_seq f_place f_events f_reply = simp append_assoc
     (again_bind _ session _ _ u64_reads f_session (again_bind _ seq _ _ u64_reads f_seq (again_bind _ place _ _ u64_reads f_place (again_bind _ events _ _ u64_reads f_events (again_bind _ reply _ _ reply_reads f_reply refl)))))
 
 answer_again : (session : ℕ) (call : ℕ) (level : Level) (place : ℕ) (events : ℕ) (term : ℕ) (arrival : ℕ) (reply : Reply) (rest : List ℕ)
-  → IsNumber session → IsNumber call → IsNumber place → IsNumber events → IsReach level term → IsReach level arrival → IsReply reply
-  → answer_at (u64_bytes session ++ u64_bytes call ++ level_bytes level ++ u64_bytes place ++ u64_bytes events ++ u64_bytes term ++ u64_bytes arrival ++ reply_bytes reply ++ rest) ≡ Ok (payload.Answer session call level place events term arrival reply, rest)
+    → IsNumber session → IsNumber call → IsNumber place → IsNumber events → IsReach level term → IsReach level arrival → IsReply reply
+    → answer_at (u64_bytes session ++ u64_bytes call ++ level_bytes level ++ u64_bytes place ++ u64_bytes events ++ u64_bytes term ++ u64_bytes arrival ++ reply_bytes reply ++ rest) ≡ Ok (payload.Answer session call level place events term arrival reply, rest)
 unfolding answer_at
 answer_again session call level place events term arrival reply rest f_session f_call f_place f_events f_term f_arrival f_reply = simp append_assoc
     (again_bind _ session _ _ u64_reads f_session (again_bind _ call _ _ u64_reads f_call (again_bind _ level _ _ level_reads tt (again_bind _ place _ _ u64_reads f_place (again_bind _ events _ _ u64_reads f_events (again_bind _ term _ _ (reach_reads level) f_term (again_bind _ arrival _ _ (reach_reads level) f_arrival (again_bind _ reply _ _ reply_reads f_reply refl))))))))
@@ -140,21 +139,21 @@ regrouped : (a b c d e : List ℕ) → a ++ b ++ c ++ d ++ e ≡ a ++ (b ++ (c +
 regrouped a b c d e = simp append_assoc
 
 batch_again : (session : ℕ) (place : ℕ) (prev : ℕ) (events : List Event) (rest : List ℕ)
-  → IsNumber session → IsNumber place → IsNumber prev → AreEvents events
-  → batch_at (u64_bytes session ++ u64_bytes place ++ u64_bytes prev ++ events_bytes events ++ rest) ≡ Ok (payload.Batch session place prev events, rest)
+    → IsNumber session → IsNumber place → IsNumber prev → AreEvents events
+    → batch_at (u64_bytes session ++ u64_bytes place ++ u64_bytes prev ++ events_bytes events ++ rest) ≡ Ok (payload.Batch session place prev events, rest)
 unfolding batch_at
 batch_again session place prev events rest f_session f_place f_prev f_events =
     ap batch_at (regrouped (u64_bytes session) (u64_bytes place) (u64_bytes prev) (events_bytes events) rest)
-      ∙ (again_bind _ session _ _ u64_reads f_session (again_bind _ place _ _ u64_reads f_place (again_bind _ prev _ _ u64_reads f_prev (again_bind _ events _ _ events_reads f_events refl))))
+    ∙ (again_bind _ session _ _ u64_reads f_session (again_bind _ place _ _ u64_reads f_place (again_bind _ prev _ _ u64_reads f_prev (again_bind _ events _ _ events_reads f_events refl))))
 
 query_payload_again : (client : ℕ) (session : ℕ) (call : ℕ) (level : Level) (seen : ℕ) (seq : ℕ) (name : List ℕ) (query : Query) (rest : List ℕ)
-  → IsClient client → IsNumber session → IsNumber call → IsNumber seen → IsNumber seq → IsName name → FitsQuery query
-  → query_payload_at ((client ∷ []) ++ u64_bytes session ++ u64_bytes call ++ level_bytes level ++ u64_bytes seen ++ u64_bytes seq ++ counted_bytes name ++ query_bytes query ++ rest) ≡ Ok (payload.Query client session call level seen seq name query, rest)
+    → IsClient client → IsNumber session → IsNumber call → IsNumber seen → IsNumber seq → IsName name → FitsQuery query
+    → query_payload_at ((client ∷ []) ++ u64_bytes session ++ u64_bytes call ++ level_bytes level ++ u64_bytes seen ++ u64_bytes seq ++ counted_bytes name ++ query_bytes query ++ rest) ≡ Ok (payload.Query client session call level seen seq name query, rest)
 unfolding query_payload_at
 query_payload_again client session call level seen seq name query rest f_client f_session f_call f_seen f_seq f_name f_query =
     let flat : u64_bytes session ++ u64_bytes call ++ level_bytes level ++ u64_bytes seen ++ u64_bytes seq ++ counted_bytes name ++ query_bytes query ++ rest ≡ u64_bytes session ++ (u64_bytes call ++ (level_bytes level ++ (u64_bytes seen ++ (u64_bytes seq ++ (counted_bytes name ++ (query_bytes query ++ rest)))))) = simp append_assoc in
     ap (λ (t : List ℕ). query_payload_at (client ∷ t)) flat
-      ∙ (again_bind _ client _ _ client_reads f_client (again_bind _ session _ _ u64_reads f_session (again_bind _ call _ _ u64_reads f_call (again_bind _ level _ _ level_reads tt (again_bind _ seen _ _ u64_reads f_seen (again_bind _ seq _ _ u64_reads f_seq (again_bind _ name _ _ name_reads f_name (again_bind _ query _ _ query_reads f_query refl))))))))
+    ∙ (again_bind _ client _ _ client_reads f_client (again_bind _ session _ _ u64_reads f_session (again_bind _ call _ _ u64_reads f_call (again_bind _ level _ _ level_reads tt (again_bind _ seen _ _ u64_reads f_seen (again_bind _ seq _ _ u64_reads f_seq (again_bind _ name _ _ name_reads f_name (again_bind _ query _ _ query_reads f_query refl))))))))
 
 payload_again : (x : Payload) (rest : List ℕ) → IsPayload x → payload_at (payload_bytes x ++ rest) ≡ Ok (x, rest)
 unfolding payload_at
@@ -215,10 +214,10 @@ append_exact : IsExact payload_bytes IsPayload (3 ∷ []) append_at
 unfolding append_at
 append_exact = exact_bind _ u64_reads.exact (λ a fa. exact_bind _ u64_reads.exact (λ b fb. exact_bind _ u64_reads.exact (λ c fc. exact_bind _ u64_reads.exact (λ d fd. exact_bind _ u64_reads.exact (λ e fe.
     exact_bind _ (small_reads 0 16 (omega arith)).exact (λ count fn. exact_bind _ (many_reads count entry_reads).exact (λ entries fs.
-      exact_ok (payload.Append a b c d e entries) (append_spelled a b c d e count entries fs.0) ((fa, fb, fc, fd, fe, fs.1), le-leb _ _ (omega (arith, fs.0, fn.1))))))))))
+    exact_ok (payload.Append a b c d e entries) (append_spelled a b c d e count entries fs.0) ((fa, fb, fc, fd, fe, fs.1), le-leb _ _ (omega (arith, fs.0, fn.1))))))))))
   where
     append_spelled : (a b c d e count : ℕ) (entries : List Entry) → length entries ≡ count
-      → (3 ∷ u64_bytes a) ++ u64_bytes b ++ u64_bytes c ++ u64_bytes d ++ u64_bytes e ++ (count ∷ []) ++ flat_map entry_bytes entries ≡ payload_bytes (payload.Append a b c d e entries)
+        → (3 ∷ u64_bytes a) ++ u64_bytes b ++ u64_bytes c ++ u64_bytes d ++ u64_bytes e ++ (count ∷ []) ++ flat_map entry_bytes entries ≡ payload_bytes (payload.Append a b c d e entries)
     append_spelled a b c d e count entries is_count = rw (← is_count) (append_assoc ((3 ∷ u64_bytes a) ++ u64_bytes b ++ u64_bytes c ++ u64_bytes d ++ u64_bytes e) (length entries ∷ []) (flat_map entry_bytes entries))
 
 append_stable : IsStable append_at
@@ -230,8 +229,8 @@ answer_exact : IsExact payload_bytes IsPayload (15 ∷ []) answer_at
 unfolding answer_at
 answer_exact = exact_bind _ u64_reads.exact (λ a fa. exact_bind _ u64_reads.exact (λ b fb. exact_bind _ level_reads.exact (λ l fl. exact_bind _ u64_reads.exact (λ c fc. exact_bind _ u64_reads.exact (λ d fd.
     exact_bind _ (reach_reads l).exact (λ t ft. exact_bind _ (reach_reads l).exact (λ i fi. exact_bind _ reply_reads.exact (λ r fr.
-      let numbers = reach_numbers l t i ft fi in
-      exact_ok (payload.Answer a b l c d t i r) refl ((fa, fb, fc, fd, numbers.0, numbers.1, fr.0), both (reach_is_spelled l t i) (reply_is_spelled r) numbers.2 fr.1)))))))))
+    let numbers = reach_numbers l t i ft fi in
+    exact_ok (payload.Answer a b l c d t i r) refl ((fa, fb, fc, fd, numbers.0, numbers.1, fr.0), both (reach_is_spelled l t i) (reply_is_spelled r) numbers.2 fr.1)))))))))
 
 answer_stable : IsStable answer_at
 unfolding answer_at
@@ -243,41 +242,41 @@ unfolding payload_at
 payload_reads = record {
   again = payload_again;
   exact = exact_bind _ exact_byte (λ n fn.
-    exact_tag n 1 (exact_three payload.Vote u64_reads u64_reads u64_reads (λ a b c. refl) (λ a b c fa fb fc. ((fa, fb, fc), refl))) (
-    exact_tag n 2 (exact_two payload.VoteReply u64_reads truth_reads (λ a b. refl) (λ a b fa fb. (fa, refl))) (
-    exact_tag n 3 append_exact (
-    exact_tag n 4 append_reply_exact (
-    exact_tag n 5 (exact_two payload.Register client_reads u64_reads (λ a b. refl) (λ a b fa fb. ((fa, fb), refl))) (
-    exact_tag n 6 (exact_keep 6 payload.Keep (λ a b c d. refl) (λ a b c d fa fb fc fd. ((fa, fb, fc, fd), refl))) (
-    exact_tag n 7 (exact_command 7 payload.Command (λ a b c d e. refl) (λ a b c d e fa fb fc fd fe. ((fa, fb, fc, fd, fe), refl))) (
-    exact_tag n 8 (exact_two payload.Close client_reads u64_reads (λ a b. refl) (λ a b fa fb. ((fa, fb), refl))) (
-    exact_tag n 9 query_payload_exact (
-    exact_tag n 10 (exact_three payload.Connect client_reads u64_reads u64_reads (λ a b c. refl) (λ a b c fa fb fc. ((fa, fb, fc), refl))) (
-    exact_tag n 11 (exact_three payload.Reset client_reads u64_reads u64_reads (λ a b c. refl) (λ a b c fa fb fc. ((fa, fb, fc), refl))) (
-    exact_tag n 12 (exact_two payload.Opened u64_reads u64_reads (λ a b. refl) (λ a b fa fb. ((fa, fb), refl))) (
-    exact_tag n 13 reply_payload_exact (
-    exact_tag n 14 (exact_two payload.Gap u64_reads u64_reads (λ a b. refl) (λ a b fa fb. ((fa, fb), refl))) (
-    exact_tag n 15 answer_exact (
-    exact_tag n 16 batch_exact (
-    exact_tag n 17 (exact_three payload.Ended u64_reads u64_reads how_reads (λ a b c. refl) (λ a b c fa fb fc. ((fa, fb), refl))) (
-    exact_wrong))))))))))))))))));
+      exact_tag n 1 (exact_three payload.Vote u64_reads u64_reads u64_reads (λ a b c. refl) (λ a b c fa fb fc. ((fa, fb, fc), refl))) (
+      exact_tag n 2 (exact_two payload.VoteReply u64_reads truth_reads (λ a b. refl) (λ a b fa fb. (fa, refl))) (
+      exact_tag n 3 append_exact (
+      exact_tag n 4 append_reply_exact (
+      exact_tag n 5 (exact_two payload.Register client_reads u64_reads (λ a b. refl) (λ a b fa fb. ((fa, fb), refl))) (
+      exact_tag n 6 (exact_keep 6 payload.Keep (λ a b c d. refl) (λ a b c d fa fb fc fd. ((fa, fb, fc, fd), refl))) (
+      exact_tag n 7 (exact_command 7 payload.Command (λ a b c d e. refl) (λ a b c d e fa fb fc fd fe. ((fa, fb, fc, fd, fe), refl))) (
+      exact_tag n 8 (exact_two payload.Close client_reads u64_reads (λ a b. refl) (λ a b fa fb. ((fa, fb), refl))) (
+      exact_tag n 9 query_payload_exact (
+      exact_tag n 10 (exact_three payload.Connect client_reads u64_reads u64_reads (λ a b c. refl) (λ a b c fa fb fc. ((fa, fb, fc), refl))) (
+      exact_tag n 11 (exact_three payload.Reset client_reads u64_reads u64_reads (λ a b c. refl) (λ a b c fa fb fc. ((fa, fb, fc), refl))) (
+      exact_tag n 12 (exact_two payload.Opened u64_reads u64_reads (λ a b. refl) (λ a b fa fb. ((fa, fb), refl))) (
+      exact_tag n 13 reply_payload_exact (
+      exact_tag n 14 (exact_two payload.Gap u64_reads u64_reads (λ a b. refl) (λ a b fa fb. ((fa, fb), refl))) (
+      exact_tag n 15 answer_exact (
+      exact_tag n 16 batch_exact (
+      exact_tag n 17 (exact_three payload.Ended u64_reads u64_reads how_reads (λ a b c. refl) (λ a b c fa fb fc. ((fa, fb), refl))) (
+      exact_wrong))))))))))))))))));
   stable = stable_bind _ stable_byte (λ n.
-    stable_if (nat_eq n 1) (stable_three payload.Vote u64_reads.stable u64_reads.stable u64_reads.stable) (
-    stable_if (nat_eq n 2) (stable_two payload.VoteReply u64_reads.stable truth_reads.stable) (
-    stable_if (nat_eq n 3) append_stable (
-    stable_if (nat_eq n 4) append_reply_stable (
-    stable_if (nat_eq n 5) (stable_two payload.Register client_reads.stable u64_reads.stable) (
-    stable_if (nat_eq n 6) (stable_keep payload.Keep) (
-    stable_if (nat_eq n 7) (stable_command payload.Command) (
-    stable_if (nat_eq n 8) (stable_two payload.Close client_reads.stable u64_reads.stable) (
-    stable_if (nat_eq n 9) query_payload_stable (
-    stable_if (nat_eq n 10) (stable_three payload.Connect client_reads.stable u64_reads.stable u64_reads.stable) (
-    stable_if (nat_eq n 11) (stable_three payload.Reset client_reads.stable u64_reads.stable u64_reads.stable) (
-    stable_if (nat_eq n 12) (stable_two payload.Opened u64_reads.stable u64_reads.stable) (
-    stable_if (nat_eq n 13) reply_payload_stable (
-    stable_if (nat_eq n 14) (stable_two payload.Gap u64_reads.stable u64_reads.stable) (
-    stable_if (nat_eq n 15) answer_stable (
-    stable_if (nat_eq n 16) batch_stable (
-    stable_if (nat_eq n 17) (stable_three payload.Ended u64_reads.stable u64_reads.stable how_reads.stable) (
-    stable_wrong))))))))))))))))));
+      stable_if (nat_eq n 1) (stable_three payload.Vote u64_reads.stable u64_reads.stable u64_reads.stable) (
+      stable_if (nat_eq n 2) (stable_two payload.VoteReply u64_reads.stable truth_reads.stable) (
+      stable_if (nat_eq n 3) append_stable (
+      stable_if (nat_eq n 4) append_reply_stable (
+      stable_if (nat_eq n 5) (stable_two payload.Register client_reads.stable u64_reads.stable) (
+      stable_if (nat_eq n 6) (stable_keep payload.Keep) (
+      stable_if (nat_eq n 7) (stable_command payload.Command) (
+      stable_if (nat_eq n 8) (stable_two payload.Close client_reads.stable u64_reads.stable) (
+      stable_if (nat_eq n 9) query_payload_stable (
+      stable_if (nat_eq n 10) (stable_three payload.Connect client_reads.stable u64_reads.stable u64_reads.stable) (
+      stable_if (nat_eq n 11) (stable_three payload.Reset client_reads.stable u64_reads.stable u64_reads.stable) (
+      stable_if (nat_eq n 12) (stable_two payload.Opened u64_reads.stable u64_reads.stable) (
+      stable_if (nat_eq n 13) reply_payload_stable (
+      stable_if (nat_eq n 14) (stable_two payload.Gap u64_reads.stable u64_reads.stable) (
+      stable_if (nat_eq n 15) answer_stable (
+      stable_if (nat_eq n 16) batch_stable (
+      stable_if (nat_eq n 17) (stable_three payload.Ended u64_reads.stable u64_reads.stable how_reads.stable) (
+      stable_wrong))))))))))))))))));
 }

@@ -20,11 +20,11 @@ use Rattle.ax_types.specs.declared.ops.TopicQuery.{TopicQuery}
 use Rattle.ax_types.specs.declared.ops.TopicQuery.TheVariants as topic_query
 use Rattle.ax_types.specs.declared.ops.Query.{Query}
 use Rattle.ax_types.specs.declared.ops.Query.TheVariants as query
-use Rattle.spec_wire.specs.Ranges.{IsName, IsText, IsSigned, IsNumber, IsLife, FitsMapQuery, FitsSetQuery, FitsMultimapQuery, FitsQuery}
+use Rattle.spec_wire.specs.Ranges.{FitsMapQuery, FitsSetQuery, FitsMultimapQuery, FitsQuery}
 use Rattle.spec_wire.specs.Resources.{map_query_bytes, lock_query_bytes, group_query_bytes, set_query_bytes, queue_query_bytes, multimap_query_bytes, query_bytes}
 use Rattle.spec_reading.specs.Queries.{map_query_at, value_query_at, long_query_at, lock_query_at, group_query_at, set_query_at, queue_query_at, multimap_query_at, topic_query_at, query_at}
-use Rattle.spec_reading.proofs.Readers.{Reads, exact_bind, exact_ok, exact_wrong, exact_tag, exact_byte, exact_one, exact_two, exact_three, stable_bind, stable_ok, stable_wrong, stable_if, stable_byte, stable_one, stable_two, stable_three, again_one, again_two, again_three}
-use Rattle.spec_reading.proofs.Fields.{name_reads, text_reads, i64_reads, life_reads}
+use Rattle.spec_reading.proofs.Readers.{Reads, exact_bind, exact_ok, exact_wrong, exact_tag, exact_byte, exact_one, exact_two, stable_bind, stable_ok, stable_wrong, stable_if, stable_byte, stable_one, stable_two, again_one, again_two}
+use Rattle.spec_reading.proofs.Fields.{name_reads, text_reads}
 
 map_query_again : (x : MapQuery) (rest : List ℕ) → FitsMapQuery x → map_query_at (map_query_bytes x ++ rest) ≡ Ok (x, rest)
 unfolding map_query_at
@@ -37,15 +37,15 @@ unfolding map_query_at
 map_query_reads = record {
   again = map_query_again;
   exact = exact_bind _ exact_byte (λ n fn.
-    exact_tag n 1 (exact_one map_query.Get name_reads (λ a. refl) (λ a fa. fa)) (
-    exact_tag n 2 (exact_one map_query.Contains name_reads (λ a. refl) (λ a fa. fa)) (
-    exact_tag n 3 (exact_ok map_query.Size refl tt) (
-    exact_wrong))));
+      exact_tag n 1 (exact_one map_query.Get name_reads (λ a. refl) (λ a fa. fa)) (
+      exact_tag n 2 (exact_one map_query.Contains name_reads (λ a. refl) (λ a fa. fa)) (
+      exact_tag n 3 (exact_ok map_query.Size refl tt) (
+      exact_wrong))));
   stable = stable_bind _ stable_byte (λ n.
-    stable_if (nat_eq n 1) (stable_one map_query.Get name_reads.stable) (
-    stable_if (nat_eq n 2) (stable_one map_query.Contains name_reads.stable) (
-    stable_if (nat_eq n 3) (stable_ok map_query.Size) (
-    stable_wrong))));
+      stable_if (nat_eq n 1) (stable_one map_query.Get name_reads.stable) (
+      stable_if (nat_eq n 2) (stable_one map_query.Contains name_reads.stable) (
+      stable_if (nat_eq n 3) (stable_ok map_query.Size) (
+      stable_wrong))));
 }
 
 abbrev AnyValueQuery : ValueQuery → Type 0
@@ -63,11 +63,11 @@ unfolding value_query_at
 value_query_reads = record {
   again = value_query_again;
   exact = exact_bind _ exact_byte (λ n fn.
-    exact_tag n 1 (exact_ok value_query.Get refl tt) (
-    exact_wrong));
+      exact_tag n 1 (exact_ok value_query.Get refl tt) (
+      exact_wrong));
   stable = stable_bind _ stable_byte (λ n.
-    stable_if (nat_eq n 1) (stable_ok value_query.Get) (
-    stable_wrong));
+      stable_if (nat_eq n 1) (stable_ok value_query.Get) (
+      stable_wrong));
 }
 
 abbrev AnyLongQuery : LongQuery → Type 0
@@ -85,11 +85,11 @@ unfolding long_query_at
 long_query_reads = record {
   again = long_query_again;
   exact = exact_bind _ exact_byte (λ n fn.
-    exact_tag n 1 (exact_ok long_query.Get refl tt) (
-    exact_wrong));
+      exact_tag n 1 (exact_ok long_query.Get refl tt) (
+      exact_wrong));
   stable = stable_bind _ stable_byte (λ n.
-    stable_if (nat_eq n 1) (stable_ok long_query.Get) (
-    stable_wrong));
+      stable_if (nat_eq n 1) (stable_ok long_query.Get) (
+      stable_wrong));
 }
 
 abbrev AnyLockQuery : LockQuery → Type 0
@@ -105,13 +105,13 @@ unfolding lock_query_at
 lock_query_reads = record {
   again = lock_query_again;
   exact = exact_bind _ exact_byte (λ n fn.
-    exact_tag n 1 (exact_ok lock_query.Holder refl tt) (
-    exact_tag n 2 (exact_ok lock_query.Waiting refl tt) (
-    exact_wrong)));
+      exact_tag n 1 (exact_ok lock_query.Holder refl tt) (
+      exact_tag n 2 (exact_ok lock_query.Waiting refl tt) (
+      exact_wrong)));
   stable = stable_bind _ stable_byte (λ n.
-    stable_if (nat_eq n 1) (stable_ok lock_query.Holder) (
-    stable_if (nat_eq n 2) (stable_ok lock_query.Waiting) (
-    stable_wrong)));
+      stable_if (nat_eq n 1) (stable_ok lock_query.Holder) (
+      stable_if (nat_eq n 2) (stable_ok lock_query.Waiting) (
+      stable_wrong)));
 }
 
 abbrev AnyGroupQuery : GroupQuery → Type 0
@@ -127,13 +127,13 @@ unfolding group_query_at
 group_query_reads = record {
   again = group_query_again;
   exact = exact_bind _ exact_byte (λ n fn.
-    exact_tag n 1 (exact_ok group_query.Members refl tt) (
-    exact_tag n 2 (exact_ok group_query.Leader refl tt) (
-    exact_wrong)));
+      exact_tag n 1 (exact_ok group_query.Members refl tt) (
+      exact_tag n 2 (exact_ok group_query.Leader refl tt) (
+      exact_wrong)));
   stable = stable_bind _ stable_byte (λ n.
-    stable_if (nat_eq n 1) (stable_ok group_query.Members) (
-    stable_if (nat_eq n 2) (stable_ok group_query.Leader) (
-    stable_wrong)));
+      stable_if (nat_eq n 1) (stable_ok group_query.Members) (
+      stable_if (nat_eq n 2) (stable_ok group_query.Leader) (
+      stable_wrong)));
 }
 
 set_query_again : (x : SetQuery) (rest : List ℕ) → FitsSetQuery x → set_query_at (set_query_bytes x ++ rest) ≡ Ok (x, rest)
@@ -146,13 +146,13 @@ unfolding set_query_at
 set_query_reads = record {
   again = set_query_again;
   exact = exact_bind _ exact_byte (λ n fn.
-    exact_tag n 1 (exact_one set_query.Contains text_reads (λ a. refl) (λ a fa. fa)) (
-    exact_tag n 2 (exact_ok set_query.Size refl tt) (
-    exact_wrong)));
+      exact_tag n 1 (exact_one set_query.Contains text_reads (λ a. refl) (λ a fa. fa)) (
+      exact_tag n 2 (exact_ok set_query.Size refl tt) (
+      exact_wrong)));
   stable = stable_bind _ stable_byte (λ n.
-    stable_if (nat_eq n 1) (stable_one set_query.Contains text_reads.stable) (
-    stable_if (nat_eq n 2) (stable_ok set_query.Size) (
-    stable_wrong)));
+      stable_if (nat_eq n 1) (stable_one set_query.Contains text_reads.stable) (
+      stable_if (nat_eq n 2) (stable_ok set_query.Size) (
+      stable_wrong)));
 }
 
 abbrev AnyQueueQuery : QueueQuery → Type 0
@@ -168,13 +168,13 @@ unfolding queue_query_at
 queue_query_reads = record {
   again = queue_query_again;
   exact = exact_bind _ exact_byte (λ n fn.
-    exact_tag n 1 (exact_ok queue_query.Peek refl tt) (
-    exact_tag n 2 (exact_ok queue_query.Size refl tt) (
-    exact_wrong)));
+      exact_tag n 1 (exact_ok queue_query.Peek refl tt) (
+      exact_tag n 2 (exact_ok queue_query.Size refl tt) (
+      exact_wrong)));
   stable = stable_bind _ stable_byte (λ n.
-    stable_if (nat_eq n 1) (stable_ok queue_query.Peek) (
-    stable_if (nat_eq n 2) (stable_ok queue_query.Size) (
-    stable_wrong)));
+      stable_if (nat_eq n 1) (stable_ok queue_query.Peek) (
+      stable_if (nat_eq n 2) (stable_ok queue_query.Size) (
+      stable_wrong)));
 }
 
 multimap_query_again : (x : MultimapQuery) (rest : List ℕ) → FitsMultimapQuery x → multimap_query_at (multimap_query_bytes x ++ rest) ≡ Ok (x, rest)
@@ -188,15 +188,15 @@ unfolding multimap_query_at
 multimap_query_reads = record {
   again = multimap_query_again;
   exact = exact_bind _ exact_byte (λ n fn.
-    exact_tag n 1 (exact_two multimap_query.Contains name_reads text_reads (λ a b. refl) (λ a b fa fb. (fa, fb))) (
-    exact_tag n 2 (exact_one multimap_query.Count name_reads (λ a. refl) (λ a fa. fa)) (
-    exact_tag n 3 (exact_ok multimap_query.Size refl tt) (
-    exact_wrong))));
+      exact_tag n 1 (exact_two multimap_query.Contains name_reads text_reads (λ a b. refl) (λ a b fa fb. (fa, fb))) (
+      exact_tag n 2 (exact_one multimap_query.Count name_reads (λ a. refl) (λ a fa. fa)) (
+      exact_tag n 3 (exact_ok multimap_query.Size refl tt) (
+      exact_wrong))));
   stable = stable_bind _ stable_byte (λ n.
-    stable_if (nat_eq n 1) (stable_two multimap_query.Contains name_reads.stable text_reads.stable) (
-    stable_if (nat_eq n 2) (stable_one multimap_query.Count name_reads.stable) (
-    stable_if (nat_eq n 3) (stable_ok multimap_query.Size) (
-    stable_wrong))));
+      stable_if (nat_eq n 1) (stable_two multimap_query.Contains name_reads.stable text_reads.stable) (
+      stable_if (nat_eq n 2) (stable_one multimap_query.Count name_reads.stable) (
+      stable_if (nat_eq n 3) (stable_ok multimap_query.Size) (
+      stable_wrong))));
 }
 
 abbrev AnyTopicQuery : TopicQuery → Type 0
@@ -214,11 +214,11 @@ unfolding topic_query_at
 topic_query_reads = record {
   again = topic_query_again;
   exact = exact_bind _ exact_byte (λ n fn.
-    exact_tag n 1 (exact_ok topic_query.Subscribers refl tt) (
-    exact_wrong));
+      exact_tag n 1 (exact_ok topic_query.Subscribers refl tt) (
+      exact_wrong));
   stable = stable_bind _ stable_byte (λ n.
-    stable_if (nat_eq n 1) (stable_ok topic_query.Subscribers) (
-    stable_wrong));
+      stable_if (nat_eq n 1) (stable_ok topic_query.Subscribers) (
+      stable_wrong));
 }
 
 value_query_spelled : (a : ValueQuery) → 2 ∷ value_query_bytes a ≡ query_bytes (query.Value a)
@@ -247,26 +247,25 @@ unfolding query_at
 query_reads = record {
   again = query_again;
   exact = exact_bind _ exact_byte (λ n fn.
-    exact_tag n 1 (exact_one query.Map map_query_reads (λ a. refl) (λ a fa. fa)) (
-    exact_tag n 2 (exact_one query.Value value_query_reads value_query_spelled (λ a fa. fa)) (
-    exact_tag n 3 (exact_one query.Long long_query_reads long_query_spelled (λ a fa. fa)) (
-    exact_tag n 4 (exact_one query.Lock lock_query_reads (λ a. refl) (λ a fa. fa)) (
-    exact_tag n 5 (exact_one query.Group group_query_reads (λ a. refl) (λ a fa. fa)) (
-    exact_tag n 6 (exact_one query.Set set_query_reads (λ a. refl) (λ a fa. fa)) (
-    exact_tag n 7 (exact_one query.Queue queue_query_reads (λ a. refl) (λ a fa. fa)) (
-    exact_tag n 8 (exact_one query.Multimap multimap_query_reads (λ a. refl) (λ a fa. fa)) (
-    exact_tag n 9 (exact_one query.Topic topic_query_reads topic_query_spelled (λ a fa. fa)) (
-    exact_wrong))))))))));
+      exact_tag n 1 (exact_one query.Map map_query_reads (λ a. refl) (λ a fa. fa)) (
+      exact_tag n 2 (exact_one query.Value value_query_reads value_query_spelled (λ a fa. fa)) (
+      exact_tag n 3 (exact_one query.Long long_query_reads long_query_spelled (λ a fa. fa)) (
+      exact_tag n 4 (exact_one query.Lock lock_query_reads (λ a. refl) (λ a fa. fa)) (
+      exact_tag n 5 (exact_one query.Group group_query_reads (λ a. refl) (λ a fa. fa)) (
+      exact_tag n 6 (exact_one query.Set set_query_reads (λ a. refl) (λ a fa. fa)) (
+      exact_tag n 7 (exact_one query.Queue queue_query_reads (λ a. refl) (λ a fa. fa)) (
+      exact_tag n 8 (exact_one query.Multimap multimap_query_reads (λ a. refl) (λ a fa. fa)) (
+      exact_tag n 9 (exact_one query.Topic topic_query_reads topic_query_spelled (λ a fa. fa)) (
+      exact_wrong))))))))));
   stable = stable_bind _ stable_byte (λ n.
-    stable_if (nat_eq n 1) (stable_one query.Map map_query_reads.stable) (
-    stable_if (nat_eq n 2) (stable_one query.Value value_query_reads.stable) (
-    stable_if (nat_eq n 3) (stable_one query.Long long_query_reads.stable) (
-    stable_if (nat_eq n 4) (stable_one query.Lock lock_query_reads.stable) (
-    stable_if (nat_eq n 5) (stable_one query.Group group_query_reads.stable) (
-    stable_if (nat_eq n 6) (stable_one query.Set set_query_reads.stable) (
-    stable_if (nat_eq n 7) (stable_one query.Queue queue_query_reads.stable) (
-    stable_if (nat_eq n 8) (stable_one query.Multimap multimap_query_reads.stable) (
-    stable_if (nat_eq n 9) (stable_one query.Topic topic_query_reads.stable) (
-    stable_wrong))))))))));
+      stable_if (nat_eq n 1) (stable_one query.Map map_query_reads.stable) (
+      stable_if (nat_eq n 2) (stable_one query.Value value_query_reads.stable) (
+      stable_if (nat_eq n 3) (stable_one query.Long long_query_reads.stable) (
+      stable_if (nat_eq n 4) (stable_one query.Lock lock_query_reads.stable) (
+      stable_if (nat_eq n 5) (stable_one query.Group group_query_reads.stable) (
+      stable_if (nat_eq n 6) (stable_one query.Set set_query_reads.stable) (
+      stable_if (nat_eq n 7) (stable_one query.Queue queue_query_reads.stable) (
+      stable_if (nat_eq n 8) (stable_one query.Multimap multimap_query_reads.stable) (
+      stable_if (nat_eq n 9) (stable_one query.Topic topic_query_reads.stable) (
+      stable_wrong))))))))));
 }
-

@@ -16,34 +16,34 @@ unfoldable pub reply_at : List ℕ → Reading Reply
 reply_at bytes = do
   number ← byte_at bytes
   if nat_eq number.0 0 then Ok (reply.Done, number.1) else
-    if nat_eq number.0 1 then Ok (reply.Nothing, number.1) else
-    if nat_eq number.0 2 then one_field text_at reply.Found number.1 else
-    if nat_eq number.0 3 then Ok (reply.Yes, number.1) else
-    if nat_eq number.0 4 then Ok (reply.No, number.1) else
-    if nat_eq number.0 5 then one_field i64_at reply.Number number.1 else
-    if nat_eq number.0 6 then one_field u64_at reply.Fence number.1 else
-    if nat_eq number.0 7 then two_fields u64_at u64_at reply.Holder number.1 else
-    if nat_eq number.0 8 then two_fields u64_at u64_at reply.Leader number.1 else
-    if nat_eq number.0 9 then one_field members_at reply.Members number.1 else
-    if nat_eq number.0 10 then Ok (reply.Busy, number.1) else
-    if nat_eq number.0 11 then Ok (reply.Already, number.1) else
-    if nat_eq number.0 12 then Ok (reply.NotHolder, number.1) else
-    if nat_eq number.0 13 then Ok (reply.NotMember, number.1) else
-    if nat_eq number.0 14 then Ok (reply.Overflow, number.1) else
-    if nat_eq number.0 15 then Ok (reply.Full, number.1) else
-    if nat_eq number.0 16 then Ok (reply.WrongKind, number.1) else
-    Err Wrong
+      if nat_eq number.0 1 then Ok (reply.Nothing, number.1) else
+      if nat_eq number.0 2 then one_field text_at reply.Found number.1 else
+      if nat_eq number.0 3 then Ok (reply.Yes, number.1) else
+      if nat_eq number.0 4 then Ok (reply.No, number.1) else
+      if nat_eq number.0 5 then one_field i64_at reply.Number number.1 else
+      if nat_eq number.0 6 then one_field u64_at reply.Fence number.1 else
+      if nat_eq number.0 7 then two_fields u64_at u64_at reply.Holder number.1 else
+      if nat_eq number.0 8 then two_fields u64_at u64_at reply.Leader number.1 else
+      if nat_eq number.0 9 then one_field members_at reply.Members number.1 else
+      if nat_eq number.0 10 then Ok (reply.Busy, number.1) else
+      if nat_eq number.0 11 then Ok (reply.Already, number.1) else
+      if nat_eq number.0 12 then Ok (reply.NotHolder, number.1) else
+      if nat_eq number.0 13 then Ok (reply.NotMember, number.1) else
+      if nat_eq number.0 14 then Ok (reply.Overflow, number.1) else
+      if nat_eq number.0 15 then Ok (reply.Full, number.1) else
+      if nat_eq number.0 16 then Ok (reply.WrongKind, number.1) else
+      Err Wrong
 
 unfoldable pub event_at : List ℕ → Reading Event
 event_at bytes = do
   number ← byte_at bytes
   if nat_eq number.0 1 then three_fields name_at name_at text_at event.Changed number.1 else
-    if nat_eq number.0 2 then two_fields name_at name_at event.Removed number.1 else
-    if nat_eq number.0 3 then two_fields name_at text_at event.Set number.1 else
-    if nat_eq number.0 4 then one_field name_at event.Cleared number.1 else
-    if nat_eq number.0 5 then two_fields name_at u64_at event.Granted number.1 else
-    if nat_eq number.0 6 then two_fields name_at u64_at event.Joined number.1 else
-    if nat_eq number.0 7 then two_fields name_at u64_at event.Left number.1 else
-    if nat_eq number.0 8 then three_fields name_at u64_at u64_at event.Elected number.1 else
-    if nat_eq number.0 9 then two_fields name_at text_at event.Message number.1 else
-    Err Wrong
+      if nat_eq number.0 2 then two_fields name_at name_at event.Removed number.1 else
+      if nat_eq number.0 3 then two_fields name_at text_at event.Set number.1 else
+      if nat_eq number.0 4 then one_field name_at event.Cleared number.1 else
+      if nat_eq number.0 5 then two_fields name_at u64_at event.Granted number.1 else
+      if nat_eq number.0 6 then two_fields name_at u64_at event.Joined number.1 else
+      if nat_eq number.0 7 then two_fields name_at u64_at event.Left number.1 else
+      if nat_eq number.0 8 then three_fields name_at u64_at u64_at event.Elected number.1 else
+      if nat_eq number.0 9 then two_fields name_at text_at event.Message number.1 else
+      Err Wrong

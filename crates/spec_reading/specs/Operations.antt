@@ -26,91 +26,91 @@ unfoldable pub map_op_at : List ℕ → Reading MapOp
 map_op_at bytes = do
   number ← byte_at bytes
   if nat_eq number.0 1 then two_fields name_at text_at map_op.Put number.1 else
-    if nat_eq number.0 2 then two_fields name_at text_at map_op.PutIfAbsent number.1 else
-    if nat_eq number.0 3 then two_fields name_at text_at map_op.Replace number.1 else
-    if nat_eq number.0 4 then one_field name_at map_op.Remove number.1 else
-    if nat_eq number.0 5 then Ok (map_op.Clear, number.1) else
-    if nat_eq number.0 6 then Ok (map_op.Listen, number.1) else
-    if nat_eq number.0 7 then three_fields name_at text_at life_at map_op.PutFor number.1 else
-    Err Wrong
+      if nat_eq number.0 2 then two_fields name_at text_at map_op.PutIfAbsent number.1 else
+      if nat_eq number.0 3 then two_fields name_at text_at map_op.Replace number.1 else
+      if nat_eq number.0 4 then one_field name_at map_op.Remove number.1 else
+      if nat_eq number.0 5 then Ok (map_op.Clear, number.1) else
+      if nat_eq number.0 6 then Ok (map_op.Listen, number.1) else
+      if nat_eq number.0 7 then three_fields name_at text_at life_at map_op.PutFor number.1 else
+      Err Wrong
 
 unfoldable pub value_op_at : List ℕ → Reading ValueOp
 value_op_at bytes = do
   number ← byte_at bytes
   if nat_eq number.0 1 then one_field text_at value_op.Set number.1 else
-    if nat_eq number.0 2 then two_fields text_at text_at value_op.Cas number.1 else
-    if nat_eq number.0 3 then Ok (value_op.Clear, number.1) else
-    if nat_eq number.0 4 then Ok (value_op.Listen, number.1) else
-    Err Wrong
+      if nat_eq number.0 2 then two_fields text_at text_at value_op.Cas number.1 else
+      if nat_eq number.0 3 then Ok (value_op.Clear, number.1) else
+      if nat_eq number.0 4 then Ok (value_op.Listen, number.1) else
+      Err Wrong
 
 unfoldable pub long_op_at : List ℕ → Reading LongOp
 long_op_at bytes = do
   number ← byte_at bytes
   if nat_eq number.0 1 then one_field i64_at long_op.Add number.1 else
-    if nat_eq number.0 2 then one_field i64_at long_op.GetAndAdd number.1 else
-    if nat_eq number.0 3 then one_field i64_at long_op.Set number.1 else
-    if nat_eq number.0 4 then two_fields i64_at i64_at long_op.Cas number.1 else
-    Err Wrong
+      if nat_eq number.0 2 then one_field i64_at long_op.GetAndAdd number.1 else
+      if nat_eq number.0 3 then one_field i64_at long_op.Set number.1 else
+      if nat_eq number.0 4 then two_fields i64_at i64_at long_op.Cas number.1 else
+      Err Wrong
 
 unfoldable pub lock_op_at : List ℕ → Reading LockOp
 lock_op_at bytes = do
   number ← byte_at bytes
   if nat_eq number.0 1 then Ok (lock_op.Lock, number.1) else
-    if nat_eq number.0 2 then Ok (lock_op.TryLock, number.1) else
-    if nat_eq number.0 3 then Ok (lock_op.Unlock, number.1) else
-    if nat_eq number.0 4 then Ok (lock_op.Cancel, number.1) else
-    Err Wrong
+      if nat_eq number.0 2 then Ok (lock_op.TryLock, number.1) else
+      if nat_eq number.0 3 then Ok (lock_op.Unlock, number.1) else
+      if nat_eq number.0 4 then Ok (lock_op.Cancel, number.1) else
+      Err Wrong
 
 unfoldable pub group_op_at : List ℕ → Reading GroupOp
 group_op_at bytes = do
   number ← byte_at bytes
   if nat_eq number.0 1 then Ok (group_op.Join, number.1) else
-    if nat_eq number.0 2 then Ok (group_op.Leave, number.1) else
-    if nat_eq number.0 3 then Ok (group_op.Listen, number.1) else
-    Err Wrong
+      if nat_eq number.0 2 then Ok (group_op.Leave, number.1) else
+      if nat_eq number.0 3 then Ok (group_op.Listen, number.1) else
+      Err Wrong
 
 unfoldable pub set_op_at : List ℕ → Reading SetOp
 set_op_at bytes = do
   number ← byte_at bytes
   if nat_eq number.0 1 then one_field text_at set_op.Add number.1 else
-    if nat_eq number.0 2 then one_field text_at set_op.Remove number.1 else
-    if nat_eq number.0 3 then Ok (set_op.Clear, number.1) else
-    Err Wrong
+      if nat_eq number.0 2 then one_field text_at set_op.Remove number.1 else
+      if nat_eq number.0 3 then Ok (set_op.Clear, number.1) else
+      Err Wrong
 
 unfoldable pub queue_op_at : List ℕ → Reading QueueOp
 queue_op_at bytes = do
   number ← byte_at bytes
   if nat_eq number.0 1 then one_field text_at queue_op.Offer number.1 else
-    if nat_eq number.0 2 then Ok (queue_op.Poll, number.1) else
-    Err Wrong
+      if nat_eq number.0 2 then Ok (queue_op.Poll, number.1) else
+      Err Wrong
 
 unfoldable pub multimap_op_at : List ℕ → Reading MultimapOp
 multimap_op_at bytes = do
   number ← byte_at bytes
   if nat_eq number.0 1 then two_fields name_at text_at multimap_op.Put number.1 else
-    if nat_eq number.0 2 then two_fields name_at text_at multimap_op.Remove number.1 else
-    if nat_eq number.0 3 then one_field name_at multimap_op.RemoveAll number.1 else
-    Err Wrong
+      if nat_eq number.0 2 then two_fields name_at text_at multimap_op.Remove number.1 else
+      if nat_eq number.0 3 then one_field name_at multimap_op.RemoveAll number.1 else
+      Err Wrong
 
 unfoldable pub topic_op_at : List ℕ → Reading TopicOp
 topic_op_at bytes = do
   number ← byte_at bytes
   if nat_eq number.0 1 then Ok (topic_op.Subscribe, number.1) else
-    if nat_eq number.0 2 then Ok (topic_op.Unsubscribe, number.1) else
-    if nat_eq number.0 3 then one_field text_at topic_op.Publish number.1 else
-    Err Wrong
+      if nat_eq number.0 2 then Ok (topic_op.Unsubscribe, number.1) else
+      if nat_eq number.0 3 then one_field text_at topic_op.Publish number.1 else
+      Err Wrong
 
 -- an operation of any kind
 unfoldable pub op_at : List ℕ → Reading Op
 op_at bytes = do
   number ← byte_at bytes
   if nat_eq number.0 1 then one_field map_op_at op.Map number.1 else
-    if nat_eq number.0 2 then one_field value_op_at op.Value number.1 else
-    if nat_eq number.0 3 then one_field long_op_at op.Long number.1 else
-    if nat_eq number.0 4 then one_field lock_op_at op.Lock number.1 else
-    if nat_eq number.0 5 then one_field group_op_at op.Group number.1 else
-    if nat_eq number.0 6 then one_field set_op_at op.Set number.1 else
-    if nat_eq number.0 7 then one_field queue_op_at op.Queue number.1 else
-    if nat_eq number.0 8 then one_field multimap_op_at op.Multimap number.1 else
-    if nat_eq number.0 9 then one_field topic_op_at op.Topic number.1 else
-    Err Wrong
+      if nat_eq number.0 2 then one_field value_op_at op.Value number.1 else
+      if nat_eq number.0 3 then one_field long_op_at op.Long number.1 else
+      if nat_eq number.0 4 then one_field lock_op_at op.Lock number.1 else
+      if nat_eq number.0 5 then one_field group_op_at op.Group number.1 else
+      if nat_eq number.0 6 then one_field set_op_at op.Set number.1 else
+      if nat_eq number.0 7 then one_field queue_op_at op.Queue number.1 else
+      if nat_eq number.0 8 then one_field multimap_op_at op.Multimap number.1 else
+      if nat_eq number.0 9 then one_field topic_op_at op.Topic number.1 else
+      Err Wrong

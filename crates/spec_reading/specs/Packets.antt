@@ -39,12 +39,12 @@ unfoldable pub body_at : List ℕ → Reading Body
 body_at bytes = do
   number ← byte_at bytes
   if nat_eq number.0 0 then Ok (body.Blank, number.1) else
-    if nat_eq number.0 1 then two_fields client_at u64_at body.Register number.1 else
-    if nat_eq number.0 2 then keep_fields body.Keep number.1 else
-    if nat_eq number.0 3 then command_fields body.Command number.1 else
-    if nat_eq number.0 4 then two_fields client_at u64_at body.Close number.1 else
-    if nat_eq number.0 5 then one_field u64_at body.Expire number.1 else
-    Err Wrong
+      if nat_eq number.0 1 then two_fields client_at u64_at body.Register number.1 else
+      if nat_eq number.0 2 then keep_fields body.Keep number.1 else
+      if nat_eq number.0 3 then command_fields body.Command number.1 else
+      if nat_eq number.0 4 then two_fields client_at u64_at body.Close number.1 else
+      if nat_eq number.0 5 then one_field u64_at body.Expire number.1 else
+      Err Wrong
 
 unfoldable pub entry_at : List ℕ → Reading Entry
 entry_at bytes = do
@@ -139,23 +139,23 @@ unfoldable pub payload_at : List ℕ → Reading Payload
 payload_at bytes = do
   number ← byte_at bytes
   if nat_eq number.0 1 then three_fields u64_at u64_at u64_at payload.Vote number.1 else
-    if nat_eq number.0 2 then two_fields u64_at truth_at payload.VoteReply number.1 else
-    if nat_eq number.0 3 then append_at number.1 else
-    if nat_eq number.0 4 then append_reply_at number.1 else
-    if nat_eq number.0 5 then two_fields client_at u64_at payload.Register number.1 else
-    if nat_eq number.0 6 then keep_fields payload.Keep number.1 else
-    if nat_eq number.0 7 then command_fields payload.Command number.1 else
-    if nat_eq number.0 8 then two_fields client_at u64_at payload.Close number.1 else
-    if nat_eq number.0 9 then query_payload_at number.1 else
-    if nat_eq number.0 10 then three_fields client_at u64_at u64_at payload.Connect number.1 else
-    if nat_eq number.0 11 then three_fields client_at u64_at u64_at payload.Reset number.1 else
-    if nat_eq number.0 12 then two_fields u64_at u64_at payload.Opened number.1 else
-    if nat_eq number.0 13 then reply_payload_at number.1 else
-    if nat_eq number.0 14 then two_fields u64_at u64_at payload.Gap number.1 else
-    if nat_eq number.0 15 then answer_at number.1 else
-    if nat_eq number.0 16 then batch_at number.1 else
-    if nat_eq number.0 17 then three_fields u64_at u64_at how_at payload.Ended number.1 else
-    Err Wrong
+      if nat_eq number.0 2 then two_fields u64_at truth_at payload.VoteReply number.1 else
+      if nat_eq number.0 3 then append_at number.1 else
+      if nat_eq number.0 4 then append_reply_at number.1 else
+      if nat_eq number.0 5 then two_fields client_at u64_at payload.Register number.1 else
+      if nat_eq number.0 6 then keep_fields payload.Keep number.1 else
+      if nat_eq number.0 7 then command_fields payload.Command number.1 else
+      if nat_eq number.0 8 then two_fields client_at u64_at payload.Close number.1 else
+      if nat_eq number.0 9 then query_payload_at number.1 else
+      if nat_eq number.0 10 then three_fields client_at u64_at u64_at payload.Connect number.1 else
+      if nat_eq number.0 11 then three_fields client_at u64_at u64_at payload.Reset number.1 else
+      if nat_eq number.0 12 then two_fields u64_at u64_at payload.Opened number.1 else
+      if nat_eq number.0 13 then reply_payload_at number.1 else
+      if nat_eq number.0 14 then two_fields u64_at u64_at payload.Gap number.1 else
+      if nat_eq number.0 15 then answer_at number.1 else
+      if nat_eq number.0 16 then batch_at number.1 else
+      if nat_eq number.0 17 then three_fields u64_at u64_at how_at payload.Ended number.1 else
+      Err Wrong
 
 -- the payload with which the bytes begin, and the length of its spelling
 abbrev pub payload_read : List ℕ → Option (Payload × ℕ)

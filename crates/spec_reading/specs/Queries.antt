@@ -26,75 +26,75 @@ unfoldable pub map_query_at : List ℕ → Reading MapQuery
 map_query_at bytes = do
   number ← byte_at bytes
   if nat_eq number.0 1 then one_field name_at map_query.Get number.1 else
-    if nat_eq number.0 2 then one_field name_at map_query.Contains number.1 else
-    if nat_eq number.0 3 then Ok (map_query.Size, number.1) else
-    Err Wrong
+      if nat_eq number.0 2 then one_field name_at map_query.Contains number.1 else
+      if nat_eq number.0 3 then Ok (map_query.Size, number.1) else
+      Err Wrong
 
 unfoldable pub value_query_at : List ℕ → Reading ValueQuery
 value_query_at bytes = do
   number ← byte_at bytes
   if nat_eq number.0 1 then Ok (value_query.Get, number.1) else
-    Err Wrong
+      Err Wrong
 
 unfoldable pub long_query_at : List ℕ → Reading LongQuery
 long_query_at bytes = do
   number ← byte_at bytes
   if nat_eq number.0 1 then Ok (long_query.Get, number.1) else
-    Err Wrong
+      Err Wrong
 
 unfoldable pub lock_query_at : List ℕ → Reading LockQuery
 lock_query_at bytes = do
   number ← byte_at bytes
   if nat_eq number.0 1 then Ok (lock_query.Holder, number.1) else
-    if nat_eq number.0 2 then Ok (lock_query.Waiting, number.1) else
-    Err Wrong
+      if nat_eq number.0 2 then Ok (lock_query.Waiting, number.1) else
+      Err Wrong
 
 unfoldable pub group_query_at : List ℕ → Reading GroupQuery
 group_query_at bytes = do
   number ← byte_at bytes
   if nat_eq number.0 1 then Ok (group_query.Members, number.1) else
-    if nat_eq number.0 2 then Ok (group_query.Leader, number.1) else
-    Err Wrong
+      if nat_eq number.0 2 then Ok (group_query.Leader, number.1) else
+      Err Wrong
 
 unfoldable pub set_query_at : List ℕ → Reading SetQuery
 set_query_at bytes = do
   number ← byte_at bytes
   if nat_eq number.0 1 then one_field text_at set_query.Contains number.1 else
-    if nat_eq number.0 2 then Ok (set_query.Size, number.1) else
-    Err Wrong
+      if nat_eq number.0 2 then Ok (set_query.Size, number.1) else
+      Err Wrong
 
 unfoldable pub queue_query_at : List ℕ → Reading QueueQuery
 queue_query_at bytes = do
   number ← byte_at bytes
   if nat_eq number.0 1 then Ok (queue_query.Peek, number.1) else
-    if nat_eq number.0 2 then Ok (queue_query.Size, number.1) else
-    Err Wrong
+      if nat_eq number.0 2 then Ok (queue_query.Size, number.1) else
+      Err Wrong
 
 unfoldable pub multimap_query_at : List ℕ → Reading MultimapQuery
 multimap_query_at bytes = do
   number ← byte_at bytes
   if nat_eq number.0 1 then two_fields name_at text_at multimap_query.Contains number.1 else
-    if nat_eq number.0 2 then one_field name_at multimap_query.Count number.1 else
-    if nat_eq number.0 3 then Ok (multimap_query.Size, number.1) else
-    Err Wrong
+      if nat_eq number.0 2 then one_field name_at multimap_query.Count number.1 else
+      if nat_eq number.0 3 then Ok (multimap_query.Size, number.1) else
+      Err Wrong
 
 unfoldable pub topic_query_at : List ℕ → Reading TopicQuery
 topic_query_at bytes = do
   number ← byte_at bytes
   if nat_eq number.0 1 then Ok (topic_query.Subscribers, number.1) else
-    Err Wrong
+      Err Wrong
 
 -- a query of any kind
 unfoldable pub query_at : List ℕ → Reading Query
 query_at bytes = do
   number ← byte_at bytes
   if nat_eq number.0 1 then one_field map_query_at query.Map number.1 else
-    if nat_eq number.0 2 then one_field value_query_at query.Value number.1 else
-    if nat_eq number.0 3 then one_field long_query_at query.Long number.1 else
-    if nat_eq number.0 4 then one_field lock_query_at query.Lock number.1 else
-    if nat_eq number.0 5 then one_field group_query_at query.Group number.1 else
-    if nat_eq number.0 6 then one_field set_query_at query.Set number.1 else
-    if nat_eq number.0 7 then one_field queue_query_at query.Queue number.1 else
-    if nat_eq number.0 8 then one_field multimap_query_at query.Multimap number.1 else
-    if nat_eq number.0 9 then one_field topic_query_at query.Topic number.1 else
-    Err Wrong
+      if nat_eq number.0 2 then one_field value_query_at query.Value number.1 else
+      if nat_eq number.0 3 then one_field long_query_at query.Long number.1 else
+      if nat_eq number.0 4 then one_field lock_query_at query.Lock number.1 else
+      if nat_eq number.0 5 then one_field group_query_at query.Group number.1 else
+      if nat_eq number.0 6 then one_field set_query_at query.Set number.1 else
+      if nat_eq number.0 7 then one_field queue_query_at query.Queue number.1 else
+      if nat_eq number.0 8 then one_field multimap_query_at query.Multimap number.1 else
+      if nat_eq number.0 9 then one_field topic_query_at query.Topic number.1 else
+      Err Wrong

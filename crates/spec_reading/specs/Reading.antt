@@ -57,9 +57,9 @@ padded_number byte bytes = from_be_bytes w64 (take 8 (bytes ++ replicate 8 byte)
 -- a number from least to most: bytes with which no such number begins are wrong, though there be less than eight
 unfoldable pub within_at : ℕ → ℕ → List ℕ → Reading ℕ
 within_at least most bytes =
-  if nat_le least (padded_number 255 bytes) && nat_le (padded_number 0 bytes) most
-  then (if nat_lt (length bytes) 8 then Err Part else Ok (padded_number 0 bytes, drop 8 bytes))
-  else Err Wrong
+    if nat_le least (padded_number 255 bytes) && nat_le (padded_number 0 bytes) most
+    then (if nat_lt (length bytes) 8 then Err Part else Ok (padded_number 0 bytes, drop 8 bytes))
+    else Err Wrong
 
 abbrev pub truth_at : List ℕ → Reading Bool
 truth_at bytes = do
@@ -72,9 +72,9 @@ client_at = small_at 1 MAX_CLIENTS
 -- `count` letters that pass the test: a wrong letter is wrong, though others lack
 unfoldable pub letters_at : (ℕ → Bool) → ℕ → List ℕ → Reading (List ℕ)
 letters_at is count bytes =
-  if list_all is (take count bytes)
-  then (if nat_lt (length bytes) count then Err Part else Ok (take count bytes, drop count bytes))
-  else Err Wrong
+    if list_all is (take count bytes)
+    then (if nat_lt (length bytes) count then Err Part else Ok (take count bytes, drop count bytes))
+    else Err Wrong
 
 -- one byte of length, from 1 to most, and that many letters
 unfoldable pub counted_at : (ℕ → Bool) → ℕ → List ℕ → Reading (List ℕ)

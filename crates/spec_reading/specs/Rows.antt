@@ -19,7 +19,7 @@ command = payload.Command 1 2 1 (codes "c") (op.Long (long_op.Add (pos 5)))
 abbrev pub command_spelled : List ℕ
 command_spelled =
     0x07 ∷ 1 ∷ 0 ∷ 0 ∷ 0 ∷ 0 ∷ 0 ∷ 0 ∷ 0 ∷ 2 ∷ 0 ∷ 0 ∷ 0 ∷ 0 ∷ 0 ∷ 0 ∷ 0 ∷ 1
-        ∷ 1 ∷ 0x63 ∷ 3 ∷ 1 ∷ 0 ∷ 0 ∷ 0 ∷ 0 ∷ 0 ∷ 0 ∷ 0 ∷ 5 ∷ []
+    ∷ 1 ∷ 0x63 ∷ 3 ∷ 1 ∷ 0 ∷ 0 ∷ 0 ∷ 0 ∷ 0 ∷ 0 ∷ 0 ∷ 5 ∷ []
 
 abbrev pub ended : Payload
 ended = payload.Ended 2 4 Expired

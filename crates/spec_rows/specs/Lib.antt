@@ -5,3 +5,4 @@ pub mod Leaders
 pub mod Reads
 pub mod Events
 pub mod Kinds
+pub mod Halts

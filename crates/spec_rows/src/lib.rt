@@ -13,6 +13,7 @@ ghost use Rattle.ax_types.specs.declared.replies.Reply.TheVariants as reply;
 ghost use Rattle.spec_raft.specs.Logs.{newer_or_equal, change_of, cut_and_added};
 ghost use Rattle.spec_raft.specs.Acks.{commit_place, has_room, with_read};
 ghost use Rattle.spec_cluster.specs.Bags.{take_refusal, mark_refusal, with_cut};
+ghost use Rattle.spec_rows.specs.Halts.{late_round_lines, late_round_items, late_round_history, blank_kept_faults, blank_kept_lines, blank_kept_items, blank_kept_history, command_kept_faults, command_kept_lines, command_kept_items, command_kept_history, part_kept_faults, part_kept_lines, part_kept_items, part_kept_history, response_order_lines, response_order_items, response_order_history};
 ghost use Rattle.spec_rows.specs.RaftRows.{blanks, terms_of, two_peers, full_reads, full_bag, first_leader, both_leaders, terms_at, of_one_session};
 ghost use Rattle.ax_types.specs.declared.steps.StepOutcome.TheVariants as outcome;
 ghost use Rattle.spec_report.specs.Examples.{doubt_history, doubt_items, group_history, group_items, leader_lost_history, leader_lost_items, lost_batch_history, lost_batch_items, one_add_history, one_add_items};
@@ -201,6 +202,31 @@ pub fn lock_and_map()
 /// A value that is set, changed where it is as expected, and cleared.
 pub fn value_changes()
     ensures { Shows (run_of 1 1 1000 value_changes_lines) value_changes_items value_changes_history }
+{}
+
+/// The round of an earlier term, acked late, confirms no read of a later one.
+pub fn late_round()
+    ensures { Shows (run_of 3 1 1000 late_round_lines) late_round_items late_round_history }
+{}
+
+/// A store fails in an election and keeps its entry: the term has an entry and no leader.
+pub fn blank_kept()
+    ensures { Shows (run_with 1 1 1000 blank_kept_faults blank_kept_lines) blank_kept_items blank_kept_history }
+{}
+
+/// A store fails and keeps a command: it takes effect once the node leads again, and is answered when it is sent again.
+pub fn command_kept()
+    ensures { Shows (run_with 1 1 1000 command_kept_faults command_kept_lines) command_kept_items command_kept_history }
+{}
+
+/// A store keeps a part of the entries that a follower adds: the rest comes after a start.
+pub fn part_kept()
+    ensures { Shows (run_with 3 1 1000 part_kept_faults part_kept_lines) part_kept_items part_kept_history }
+{}
+
+/// A query that was called first shows a later place than the command called after it.
+pub fn response_order()
+    ensures { Shows (run_of 1 1 1000 response_order_lines) response_order_items response_order_history }
 {}
 
 /// A log with terms 1, 1, 2 against other logs, each by its last term and last place.

@@ -123,7 +123,7 @@ with_plan d round s = record d { script = record d.script { plan = d.script.plan
 abbrev pub after_plan : List Word → Draft → Option Draft
 after_plan (r ∷ ws) d =
     both (with_plan d) (number_within 1 1000000 r)
-        (option_and_then planned (step_of d.script.nodes d.script.clients ws))
+    (option_and_then planned (step_of d.script.nodes d.script.clients ws))
 after_plan [] d = None
 
 abbrev pub with_feed : Draft → ℕ × WatchKind → Draft
@@ -187,7 +187,7 @@ or_refused reason (Some x) = Ok x
 abbrev pub after_first : Place → List ℕ → Result (Option Draft) Why
 after_first p l =
     if is_skipped l then
-        (if p.is_last then Err why.Cluster else unless_refused (in_limits p.is_past l) (Ok None))
+    (if p.is_last then Err why.Cluster else unless_refused (in_limits p.is_past l) (Ok None))
     else cluster_read p l (cluster_of (words_of l))
   where
     cluster_read : Place → List ℕ → Option Draft → Result (Option Draft) Why

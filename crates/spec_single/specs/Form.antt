@@ -26,29 +26,29 @@ most_calls = 1000
 abbrev pub is_quiet : Op → Bool
 is_quiet (op.Map o) = quiet_map o
   where
-  quiet_map : MapOp → Bool
-  quiet_map map_op.Listen = false
-  quiet_map _ = true
+    quiet_map : MapOp → Bool
+    quiet_map map_op.Listen = false
+    quiet_map _ = true
 is_quiet (op.Value o) = quiet_value o
   where
-  quiet_value : ValueOp → Bool
-  quiet_value value_op.Listen = false
-  quiet_value _ = true
+    quiet_value : ValueOp → Bool
+    quiet_value value_op.Listen = false
+    quiet_value _ = true
 is_quiet (op.Lock o) = quiet_lock o
   where
-  quiet_lock : LockOp → Bool
-  quiet_lock lock_op.Lock = false
-  quiet_lock _ = true
+    quiet_lock : LockOp → Bool
+    quiet_lock lock_op.Lock = false
+    quiet_lock _ = true
 is_quiet (op.Group o) = quiet_group o
   where
-  quiet_group : GroupOp → Bool
-  quiet_group group_op.Listen = false
-  quiet_group _ = true
+    quiet_group : GroupOp → Bool
+    quiet_group group_op.Listen = false
+    quiet_group _ = true
 is_quiet (op.Topic o) = quiet_topic o
   where
-  quiet_topic : TopicOp → Bool
-  quiet_topic topic_op.Subscribe = false
-  quiet_topic _ = true
+    quiet_topic : TopicOp → Bool
+    quiet_topic topic_op.Subscribe = false
+    quiet_topic _ = true
 is_quiet (op.Long o) = true
 is_quiet (op.Set o) = true
 is_quiet (op.Queue o) = true

@@ -8,5 +8,4 @@ ghost use Rattle.spec_window.specs.Words.{Words, Draw, Publish, Take, Answer, Fr
 pub fn one_call()
     ensures { moved 2 (moved 2 (moved 2 (moved 2 (moved 2 (moved 2 (first_words 2) (Draw 0)) (Publish 0)) (Take 0)) (Answer 0)) (Free 0)) (Raise 0)
         ≡ record { next = 1; base = 1; states = 8 ∷ 4 ∷ [] } }
-{
-}
+{}

@@ -53,7 +53,7 @@ payload_bytes (payload.Vote term last last_term) = 1 ∷ u64_bytes term ++ u64_b
 payload_bytes (payload.VoteReply term granted) = 2 ∷ u64_bytes term ++ truth_bytes granted
 payload_bytes (payload.Append term prev prev_term commit round entries) =
     3 ∷ u64_bytes term ++ u64_bytes prev ++ u64_bytes prev_term ++ u64_bytes commit ++ u64_bytes round
-        ++ entries_bytes entries
+    ++ entries_bytes entries
 payload_bytes (payload.AppendReply term ok place round) =
     4 ∷ u64_bytes term ++ truth_bytes ok ++ u64_bytes place ++ u64_bytes round
 payload_bytes (payload.Register client opening) = 5 ∷ client ∷ u64_bytes opening
@@ -64,7 +64,7 @@ payload_bytes (payload.Command client session seq name op) =
 payload_bytes (payload.Close client session) = 8 ∷ client ∷ u64_bytes session
 payload_bytes (payload.Query client session call level seen seq name query) =
     9 ∷ client ∷ u64_bytes session ++ u64_bytes call ++ level_bytes level ++ u64_bytes seen ++ u64_bytes seq
-        ++ counted_bytes name ++ query_bytes query
+    ++ counted_bytes name ++ query_bytes query
 payload_bytes (payload.Connect client session heard) = 10 ∷ client ∷ u64_bytes session ++ u64_bytes heard
 payload_bytes (payload.Reset client session heard) = 11 ∷ client ∷ u64_bytes session ++ u64_bytes heard
 payload_bytes (payload.Opened opening session) = 12 ∷ u64_bytes opening ++ u64_bytes session
@@ -73,7 +73,7 @@ payload_bytes (payload.Reply session seq place events reply) =
 payload_bytes (payload.Gap session last) = 14 ∷ u64_bytes session ++ u64_bytes last
 payload_bytes (payload.Answer session call level place events term arrival reply) =
     15 ∷ u64_bytes session ++ u64_bytes call ++ level_bytes level ++ u64_bytes place ++ u64_bytes events
-        ++ u64_bytes term ++ u64_bytes arrival ++ reply_bytes reply
+    ++ u64_bytes term ++ u64_bytes arrival ++ reply_bytes reply
 payload_bytes (payload.Batch session place prev events) =
     16 ∷ u64_bytes session ++ u64_bytes place ++ u64_bytes prev ++ events_bytes events
 payload_bytes (payload.Ended session place how) = 17 ∷ u64_bytes session ++ u64_bytes place ++ how_bytes how

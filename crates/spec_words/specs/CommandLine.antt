@@ -93,7 +93,7 @@ abbrev pub salvage_of : Given → Option Command
 salvage_of g =
     if takes_only false false true g
     then option_and_then (λ folder. both (command.Salvage folder) (option_and_then (number_within 1 9) g.nodes)
-        (option_and_then timeout_of g.timeout)) g.operand
+    (option_and_then timeout_of g.timeout)) g.operand
     else None
 
 abbrev pub command_by : Text → Given → Option Command

@@ -15,8 +15,7 @@ pub fn accepted_words()
     ensures upgrade { command_of_words (codes "upgrade" ∷ codes "x" ∷ []) ≡ Some (command.Upgrade (codes "x")) }
     ensures audit { command_of_words (codes "audit" ∷ codes "1000" ∷ []) ≡ Some (command.Audit 1000) }
     ensures salvage { command_of_words (codes "salvage" ∷ codes "x" ∷ codes "--nodes" ∷ codes "3" ∷ codes "--timeout=1000" ∷ []) ≡ Some (command.Salvage (codes "x") 3 1000) }
-{
-}
+{}
 
 /// Words that no command has: an operand, a flag or an option too many or too few, a number outside its limits or spelled otherwise.
 pub fn refused_words()
@@ -33,5 +32,4 @@ pub fn refused_words()
     ensures timeout_of_zero { command_of_words (codes "audit" ∷ codes "0" ∷ []) ≡ None }
     ensures missing_option { command_of_words (codes "salvage" ∷ codes "x" ∷ codes "--nodes" ∷ codes "3" ∷ []) ≡ None }
     ensures option_of_another { command_of_words (codes "run" ∷ codes "--nodes" ∷ codes "3" ∷ []) ≡ None }
-{
-}
+{}

@@ -1,7 +1,6 @@
 use Rattle.std.proofs.Common.{refl}
 use Rattle.spec_wire.specs.Numbers.{u64_bytes, i64_bytes}
-use Rattle.spec_reading.specs.Reading.{u64_at, i64_at, counted_at, letters_at}
-use Rattle.spec_reading.specs.Operations.{op_at, long_op_at}
+use Rattle.spec_reading.specs.Reading.{u64_at}
 use Rattle.spec_reading.specs.Packets.{payload_at}
 use Rattle.spec_reading.proofs.rows.ended_row.Goals as goal
 

@@ -1,0 +1,249 @@
+-- A run is read back from the text of its report.
+use Rattle.std.proofs.Common.{◌≡◌, ℕ, ◌+◌, Bool, true, false, nat_lt, cond, slice_index_or, List, [], ◌∷◌, ◌++◌, map, drop, length, codes, refl, sym, ap, ◌∙◌, arith}
+use Rattle.std.proofs.lemmas.Bool.Decides.{nat_tests}
+use Rattle.std.specs.Fmt.{decimal}
+use Rattle.ax_types.specs.declared.entries.Act.{Act}
+use Rattle.ax_types.specs.declared.entries.Act.TheVariants as act
+use Rattle.ax_types.specs.declared.scripts.RunEnd.{RunEnd}
+use Rattle.ax_types.specs.declared.scripts.RunEnd.TheVariants as run_end
+use Rattle.ax_types.specs.declared.items.Item.{Item}
+use Rattle.ax_types.specs.declared.items.Item.TheVariants as item
+use Rattle.ax_types.specs.declared.ops.Op.TheVariants as op
+use Rattle.spec_report.specs.Calls.{one_operand}
+use Rattle.spec_report.specs.Items.{item_line, waiting_line, waiting_text, waiting_of}
+use Rattle.spec_report.specs.Report.{act_text, act_line, act_lines, history_line, history_text, end_word, end_text, report_text}
+use Rattle.law_report.specs.Forms.{Each, IsItem, IsAct, IsEntry, IsRunEnd, IsCallNumber}
+use Rattle.law_report.specs.Laws.{TextTellsRun}
+use Rattle.law_report.proofs.Words.{IsLine, word, join, at, is_word, pieces, pieces-join, pieces-lacks, above-lacks}
+use Rattle.law_report.proofs.Numbers.{number_back, number-back, number_line, decimal-begins}
+use Rattle.law_report.proofs.Operations.{op_words, op_back, op-line, op-back}
+use Rattle.law_report.proofs.Items.{item_words, item_back, item-line, item-back}
+use Rattle.law_report.proofs.Lines.{one_value, AreLines, pieces-lines, same_first, same_rest, one_list, NoneIs, opens, one_cut, same_behind}
+
+-- ---- items
+
+pub one_item : (x y : Item) → IsItem x → IsItem y → item_line x ≡ item_line y → x ≡ y
+one_item x y h k e = one_value item_back x y (item-line x h) (item-line y k) (item-back x h) (item-back y k) e
+
+pub items_are_lines : (xs : List Item) → Each IsItem xs → AreLines (map item_line xs)
+items_are_lines [] h = tt
+items_are_lines (x ∷ xs) h = ((item-line x h.0).bytes, items_are_lines xs h.1)
+
+-- whether a line's first word is `history`
+abbrev is_history : List ℕ → Bool
+is_history l = is_word (at 0 (pieces 32 l)) (codes "history")
+
+item_is_no_history : (x : Item) → is_word (at 0 (item_words x)) (codes "history") ≡ false
+item_is_no_history (item.Leader node term) = refl
+item_is_no_history (item.Commit place) = refl
+item_is_no_history (item.Reach node term arrival session number) = refl
+item_is_no_history (item.Halted node) = refl
+item_is_no_history (item.Opened session client) = refl
+item_is_no_history (item.Called session number call) = refl
+item_is_no_history (item.Event session place prev events) = refl
+item_is_no_history (item.Watched client kind session place event) = refl
+item_is_no_history (item.Reply session number place reply) = refl
+item_is_no_history (item.Read session number level place reach reply) = refl
+item_is_no_history (item.Ended session place how) = refl
+item_is_no_history (item.Doubt session number) = refl
+item_is_no_history (item.Lost session number) = refl
+item_is_no_history (item.Unsent session number) = refl
+item_is_no_history (item.Unanswered session number) = refl
+item_is_no_history (item.Listed count) = refl
+item_is_no_history (item.Pending number from to kind) = refl
+item_is_no_history (item.Skip reason) = refl
+
+items_are_no_history : (xs : List Item) → Each IsItem xs → NoneIs is_history (map item_line xs)
+items_are_no_history [] h = tt
+items_are_no_history (x ∷ xs) h =
+    (ap (λ ws. is_word (at 0 ws) (codes "history")) (item-line x h.0).words ∙ item_is_no_history x, items_are_no_history xs h.1)
+
+-- ---- histories
+
+abbrev pub act_words : Act → List (List ℕ)
+act_words act.Nothing = codes "nothing" ∷ []
+act_words (act.Open client opening) = codes "open" ∷ decimal client ∷ decimal opening ∷ []
+act_words (act.Keep session) = codes "keep" ∷ decimal session ∷ []
+act_words (act.Do session name op) = codes "do" ∷ decimal session ∷ op_words name op
+act_words (act.Close session) = codes "close" ∷ decimal session ∷ []
+act_words (act.Expire session) = codes "expire" ∷ decimal session ∷ []
+
+abbrev pub act_back : List (List ℕ) → Act
+act_back ws =
+    cond (is_word (at 0 ws) (codes "nothing")) act.Nothing (
+    cond (is_word (at 0 ws) (codes "open")) (act.Open (number_back (at 1 ws)) (number_back (at 2 ws))) (
+    cond (is_word (at 0 ws) (codes "keep")) (act.Keep (number_back (at 1 ws))) (
+    cond (is_word (at 0 ws) (codes "do")) (act.Do (number_back (at 1 ws)) (at 3 ws) (op_back (drop 2 ws))) (
+    cond (is_word (at 0 ws) (codes "close")) (act.Close (number_back (at 1 ws))) (
+    (act.Expire (number_back (at 1 ws))))))))
+
+act-line : (o : Act) → IsAct o → IsLine (act_text o) (act_words o)
+act-line act.Nothing h = word (codes "nothing") refl
+act-line (act.Open client opening) h = join (word (codes "open") refl) (join (number_line client) (number_line opening))
+act-line (act.Keep session) h = join (word (codes "keep") refl) (number_line session)
+act-line (act.Do session name op) h = join (word (codes "do") refl) (join (number_line session) (op-line name op h.1 h.2))
+act-line (act.Close session) h = join (word (codes "close") refl) (number_line session)
+act-line (act.Expire session) h = join (word (codes "expire") refl) (number_line session)
+
+act-back : (o : Act) → IsAct o → act_back (act_words o) ≡ o
+act-back act.Nothing h = refl
+act-back (act.Open client opening) h = λ i. act.Open (number-back client h.0 i) (number-back opening h.1 i)
+act-back (act.Keep session) h = λ i. act.Keep (number-back session h i)
+act-back (act.Do session name (op.Map o)) h = λ i. act.Do (number-back session h.0 i) name (op-back name (op.Map o) h.2 i)
+act-back (act.Do session name (op.Value o)) h = λ i. act.Do (number-back session h.0 i) name (op-back name (op.Value o) h.2 i)
+act-back (act.Do session name (op.Long o)) h = λ i. act.Do (number-back session h.0 i) name (op-back name (op.Long o) h.2 i)
+act-back (act.Do session name (op.Lock o)) h = λ i. act.Do (number-back session h.0 i) name (op-back name (op.Lock o) h.2 i)
+act-back (act.Do session name (op.Group o)) h = λ i. act.Do (number-back session h.0 i) name (op-back name (op.Group o) h.2 i)
+act-back (act.Do session name (op.Set o)) h = λ i. act.Do (number-back session h.0 i) name (op-back name (op.Set o) h.2 i)
+act-back (act.Do session name (op.Queue o)) h = λ i. act.Do (number-back session h.0 i) name (op-back name (op.Queue o) h.2 i)
+act-back (act.Do session name (op.Multimap o)) h = λ i. act.Do (number-back session h.0 i) name (op-back name (op.Multimap o) h.2 i)
+act-back (act.Do session name (op.Topic o)) h = λ i. act.Do (number-back session h.0 i) name (op-back name (op.Topic o) h.2 i)
+act-back (act.Close session) h = λ i. act.Close (number-back session h i)
+act-back (act.Expire session) h = λ i. act.Expire (number-back session h i)
+
+-- the time and the act of a line
+abbrev entry_back : List (List ℕ) → ℕ × Act
+entry_back ws = (number_back (at 1 ws), act_back (drop 2 ws))
+
+pub entry-line : (place : ℕ) (x : ℕ × Act) → IsEntry x → IsLine (act_line place x) (decimal place ∷ decimal x.0 ∷ act_words x.1)
+entry-line place x h = join (number_line place) (join (number_line x.0) (act-line x.1 h.1))
+
+pub one_entry : (place : ℕ) (x y : ℕ × Act) → IsEntry x → IsEntry y → act_line place x ≡ act_line place y → x ≡ y
+one_entry place x y h k e =
+    one_value entry_back x y (entry-line place x h) (entry-line place y k)
+    (λ i. (number-back x.0 h.0 i, act-back x.1 h.1 i)) (λ i. (number-back y.0 k.0 i, act-back y.1 k.1 i)) e
+
+pub one_history : (place : ℕ) (xs ys : List (ℕ × Act)) → Each IsEntry xs → Each IsEntry ys → act_lines place xs ≡ act_lines place ys → xs ≡ ys
+one_history place [] [] h k e = refl
+one_history place [] (y ∷ ys) h k e = cc
+one_history place (x ∷ xs) [] h k e = cc
+one_history place (x ∷ xs) (y ∷ ys) h k e =
+    let us = act_lines (place + 1) xs in
+    let vs = act_lines (place + 1) ys in
+    λ i. one_entry place x y h.0 k.0 (same_first (act_line place x) (act_line place x) (act_line place y) us vs e) i
+    ∷ one_history (place + 1) xs ys h.1 k.1 (same_rest (act_line place x) (act_line place y) us vs e) i
+
+pub acts_are_lines : (place : ℕ) (xs : List (ℕ × Act)) → Each IsEntry xs → AreLines (act_lines place xs)
+acts_are_lines place [] h = tt
+acts_are_lines place (x ∷ xs) h = ((entry-line place x h.0).bytes, acts_are_lines (place + 1) xs h.1)
+
+-- whether a line's first byte is above the digits
+abbrev is_past_digits : List ℕ → Bool
+is_past_digits l = nat_lt 57 (slice_index_or l 0 0)
+
+begins_with_digit : (xs ys : List ℕ) → nat_lt (slice_index_or xs 0 100) 58 ≡ true → is_past_digits (xs ++ ys) ≡ false
+begins_with_digit [] ys h = cc
+begins_with_digit (x ∷ xs) ys h = grind (arith, nat_tests)
+
+acts_begin_with_digits : (place : ℕ) (xs : List (ℕ × Act)) → NoneIs is_past_digits (act_lines place xs)
+acts_begin_with_digits place [] = tt
+acts_begin_with_digits place (x ∷ xs) =
+    (begins_with_digit (decimal place) (32 ∷ (decimal x.0 ++ (32 ∷ act_text x.1))) (decimal-begins place), acts_begin_with_digits (place + 1) xs)
+
+history-line : (xs : List (ℕ × Act)) → IsLine (history_line xs) (codes "history" ∷ decimal (length xs) ∷ [])
+history-line xs = join (word (codes "history") refl) (number_line (length xs))
+
+is_history_line : (xs : List (ℕ × Act)) → is_history (history_line xs) ≡ true
+is_history_line xs = ap (λ ws. is_word (at 0 ws) (codes "history")) (history-line xs).words
+
+-- ---- calls that wait, and ends
+
+abbrev call_number_back : List (List ℕ) → ℕ × ℕ
+call_number_back ws = (number_back (at 1 ws), number_back (at 2 ws))
+
+pub waiting-line : (a : ℕ × ℕ) → IsLine (waiting_line a) (codes "waiting" ∷ decimal a.0 ∷ decimal a.1 ∷ [])
+waiting-line a = join (word (codes "waiting") refl) (join (number_line a.0) (number_line a.1))
+
+pub one_call_number : (a b : ℕ × ℕ) → IsCallNumber a → IsCallNumber b → waiting_line a ≡ waiting_line b → a ≡ b
+one_call_number a b h k e =
+    one_value call_number_back a b (waiting-line a) (waiting-line b)
+    (λ i. (number-back a.0 h.0 i, number-back a.1 h.1 i)) (λ i. (number-back b.0 k.0 i, number-back b.1 k.1 i)) e
+
+pub waiting_are_lines : (xs : List (ℕ × ℕ)) → AreLines (map waiting_line xs)
+waiting_are_lines [] = tt
+waiting_are_lines (x ∷ xs) = ((waiting-line x).bytes, waiting_are_lines xs)
+
+abbrev end_words : RunEnd → List (List ℕ)
+end_words run_end.Done = codes "done" ∷ []
+end_words (run_end.StepLimit line) = codes "step-limit" ∷ decimal line ∷ []
+
+abbrev end_back : List (List ℕ) → RunEnd
+end_back ws = cond (is_word (at 0 ws) (codes "done")) run_end.Done (run_end.StepLimit (number_back (at 1 ws)))
+
+pub end_word-line : (o : RunEnd) → IsLine (end_word o) (end_words o)
+end_word-line run_end.Done = word (codes "done") refl
+end_word-line (run_end.StepLimit line) = join (word (codes "step-limit") refl) (number_line line)
+
+end-back : (o : RunEnd) → IsRunEnd o → end_back (end_words o) ≡ o
+end-back run_end.Done h = refl
+end-back (run_end.StepLimit line) h = λ i. run_end.StepLimit (number-back line h i)
+
+pub one_end : (x y : RunEnd) → IsRunEnd x → IsRunEnd y → end_word x ≡ end_word y → x ≡ y
+one_end x y h k e = one_value end_back x y (end_word-line x) (end_word-line y) (end-back x h) (end-back y k) e
+
+-- ---- the lines of a report
+
+-- the lines behind the history, and what is left behind the last newline
+abbrev tail_lines : List (ℕ × ℕ) → RunEnd → List (List ℕ)
+tail_lines waiting end = map waiting_line waiting ++ (one_operand (codes "end") (end_word end) ∷ [] ∷ [])
+
+tail_is_past_digits : (waiting : List (ℕ × ℕ)) (end : RunEnd) → opens is_past_digits (tail_lines waiting end) ≡ true
+tail_is_past_digits [] end = refl
+tail_is_past_digits (a ∷ waiting) end = refl
+
+end-pieces : (end : RunEnd) → pieces 10 (end_text end) ≡ one_operand (codes "end") (end_word end) ∷ [] ∷ []
+end-pieces end =
+    let line = join (word (codes "end") refl) (end_word-line end) in
+    pieces-join 10 (one_operand (codes "end") (end_word end)) []
+    ∙ ap (λ ls. ls ++ ([] ∷ [])) (pieces-lacks 10 (one_operand (codes "end") (end_word end)) (above-lacks 31 10 refl (one_operand (codes "end") (end_word end)) line.bytes))
+
+-- the lines behind the head
+abbrev body_lines : List Item → List (ℕ × Act) → RunEnd → List (List ℕ)
+body_lines items history end =
+    map item_line items ++ (history_line history ∷ (act_lines 1 history ++ tail_lines (waiting_of items) end))
+
+report-pieces : (items : List Item) (history : List (ℕ × Act)) (end : RunEnd) → Each IsItem items → Each IsEntry history
+    → pieces 10 (report_text items history end) ≡ codes "report 1" ∷ body_lines items history end
+report-pieces items history end h k =
+    let behind = waiting_text (waiting_of items) ++ end_text end in
+    ap (λ ls. codes "report 1" ∷ ls)
+    (pieces-lines (map item_line items) (history_text history ++ behind) (items_are_lines items h)
+    ∙ ap (λ ls. map item_line items ++ ls)
+    (pieces-lines (history_line history ∷ act_lines 1 history) behind ((history-line history).bytes, acts_are_lines 1 history k)
+    ∙ ap (λ ls. history_line history ∷ (act_lines 1 history ++ ls))
+    (pieces-lines (map waiting_line (waiting_of items)) (end_text end) (waiting_are_lines (waiting_of items))
+    ∙ ap (λ ls. map waiting_line (waiting_of items) ++ ls) (end-pieces end))))
+
+-- ---- runs
+
+one_body :
+    (items jtems : List Item) (history kistory : List (ℕ × Act)) (end fend : RunEnd)
+    → Each IsItem items → Each IsItem jtems → Each IsEntry history → Each IsEntry kistory → IsRunEnd end → IsRunEnd fend
+    → body_lines items history end ≡ body_lines jtems kistory fend
+    → (items ≡ jtems) × (history ≡ kistory) × (end ≡ fend)
+one_body items jtems history kistory end fend a b c d f g e =
+    let us = act_lines 1 history ++ tail_lines (waiting_of items) end in
+    let vs = act_lines 1 kistory ++ tail_lines (waiting_of jtems) fend in
+    let cut = one_cut is_history (map item_line items) (map item_line jtems) (history_line history ∷ us) (history_line kistory ∷ vs)
+    (items_are_no_history items a) (items_are_no_history jtems b) (is_history_line history) (is_history_line kistory) e in
+    let same_items = one_list IsItem item_line one_item items jtems a b cut.0 in
+    let split = one_cut is_past_digits (act_lines 1 history) (act_lines 1 kistory) (tail_lines (waiting_of items) end) (tail_lines (waiting_of jtems) fend)
+    (acts_begin_with_digits 1 history) (acts_begin_with_digits 1 kistory)
+    (tail_is_past_digits (waiting_of items) end) (tail_is_past_digits (waiting_of jtems) fend)
+    (same_rest (history_line history) (history_line kistory) us vs cut.1) in
+    let same_tail : tail_lines (waiting_of items) end ≡ tail_lines (waiting_of items) fend =
+    split.1 ∙ ap (λ is. tail_lines (waiting_of is) fend) (sym same_items) in
+    let ends : one_operand (codes "end") (end_word end) ∷ [] ∷ [] ≡ one_operand (codes "end") (end_word fend) ∷ [] ∷ [] =
+    same_behind (map waiting_line (waiting_of items)) _ _ same_tail in (
+      same_items,
+      one_history 1 history kistory c d split.0,
+      one_end end fend f g (ap (λ l. drop 4 l) (same_first [] _ _ _ _ ends)),
+    )
+
+pub text_tells_run : TextTellsRun
+text_tells_run one other h k e =
+    let same = one_body one.items other.items one.history other.history one.end other.end h.items k.items h.history k.history h.end k.end
+    (same_rest (codes "report 1") (codes "report 1") _ _
+    (sym (report-pieces one.items one.history one.end h.items h.history)
+    ∙ (ap (pieces 10) e ∙ report-pieces other.items other.history other.end k.items k.history))) in
+    λ i. record { items = same.0 i; history = same.1 i; end = same.2 i }

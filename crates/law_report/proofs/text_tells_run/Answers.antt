@@ -1,0 +1,5 @@
+use Rattle.law_report.proofs.Report.{text_tells_run}
+use Rattle.law_report.proofs.text_tells_run.Goals as goal
+
+pub returns : goal.returns
+returns c = text_tells_run
