@@ -1,13 +1,17 @@
-ghost use Rattle.std.specs.Prelude.{◌≡◌, IfOk, map, string_bytes, true};
+ghost use Rattle.std.specs.Prelude.{◌≡◌, IfOk, map, string_bytes, true, false, option_and_then, option_map};
 ghost use Rattle.clap.specs.Simple.{app_of, with_rule};
-ghost use Rattle.clap.specs.Walk.{rule_of, rows_of};
+ghost use Rattle.clap.specs.Walk.{first_of, rows_of};
 ghost use Rattle.clap.specs.Matches.{found_of};
-ghost use Rattle.command_words.specs.Refusals.{Answers};
-ghost use Rattle.spec_words.specs.CommandLine.{axrun, plain_axrun, command_of_words, positional, flag, option};
+ghost use Rattle.spec_text.specs.Numbers.{both, number_within, timeout_of};
+ghost use Rattle.spec_words.specs.CommandLine.{audit_of, axrun, command_by as command_by_of, command_in, command_of_words, flag, gen_of, given as given_of, is_set as is_set_of, option, plain_axrun, positional, race_of, run_in_of, run_of, salvage_of, takes_only as takes_only_of, upgrade_of};
+ghost use Rattle.command_words.specs.Answers.{Answers, Parses};
+ghost use Rattle.command_words.specs.Given.{given_behind, text_behind};
 
-use ax_types::{Command, NoMemory};
+use ax_types::{Command, List, NoMemory};
+use clap::error::ErrorKind;
 use clap::{Arg, ArgAction, ArgMatches};
 use std::alloc::{AllocError, Global};
+use text_words::{is, number};
 
 /// Why words give no command.
 #[derive(Clone, Copy, Debug, PartialEq, Eq)]
@@ -17,7 +21,17 @@ pub enum WordsRefused {
     NoMemory,
 }
 
-fn plain_command(alloc: Global) -> clap::Command<'static>
+impl From<NoMemory> for WordsRefused {
+    ghost use Rattle.command_words.specs.declared.words.WordsRefused.TheVariants as refused;
+
+    ghost from_gives = { λ _ e. e ≡ refused.NoMemory };
+
+    fn from(_error: NoMemory) -> WordsRefused {
+        WordsRefused::NoMemory
+    }
+}
+
+fn plain_command<'a>(alloc: Global) -> clap::Command<'a>
     ensures { app_of result ≡ plain_axrun }
 {
     clap::Command::new(alloc, "axrun")
@@ -26,12 +40,12 @@ fn plain_command(alloc: Global) -> clap::Command<'static>
         .disable_version_flag(true)
 }
 
-fn with_positional(
+fn with_positional<'a>(
     alloc: Global,
-    command: clap::Command<'static>,
-    name: &'static str,
+    command: clap::Command<'a>,
+    name: &'a str,
     required: bool,
-) -> Result<clap::Command<'static>, AllocError>
+) -> Result<clap::Command<'a>, AllocError>
     ensures { IfOk result (λ c. app_of c ≡ with_rule (app_of command.entry) (positional name.now required)) }
 {
     let arg = Arg::new(alloc, name)
@@ -40,24 +54,22 @@ fn with_positional(
     command.arg(arg)
 }
 
-fn with_flag(
+fn with_flag<'a>(
     alloc: Global,
-    command: clap::Command<'static>,
-    name: &'static str,
-) -> Result<clap::Command<'static>, AllocError>
+    command: clap::Command<'a>,
+    name: &'a str,
+) -> Result<clap::Command<'a>, AllocError>
     ensures { IfOk result (λ c. app_of c ≡ with_rule (app_of command.entry) (flag name.now)) }
 {
-    let arg = Arg::new(alloc, name)
-        .long(name)
-        .action(ArgAction::SetTrue);
+    let arg = Arg::new(alloc, name).long(name).action(ArgAction::SetTrue);
     command.arg(arg)
 }
 
-fn with_option(
+fn with_option<'a>(
     alloc: Global,
-    command: clap::Command<'static>,
-    name: &'static str,
-) -> Result<clap::Command<'static>, AllocError>
+    command: clap::Command<'a>,
+    name: &'a str,
+) -> Result<clap::Command<'a>, AllocError>
     ensures { IfOk result (λ c. app_of c ≡ with_rule (app_of command.entry) (option name.now)) }
 {
     let arg = Arg::new(alloc, name).long(name).action(ArgAction::Set);
@@ -65,7 +77,7 @@ fn with_option(
 }
 
 #[tactic(auto, unfolding(spec_words::specs::CommandLine::axrun))]
-fn command_line(alloc: Global) -> Result<clap::Command<'static>, AllocError>
+fn command_line<'a>(alloc: Global) -> Result<clap::Command<'a>, AllocError>
     ensures { IfOk result (λ c. app_of c ≡ axrun) }
 {
     let command = with_positional(alloc, plain_command(alloc), "command", true)?;
@@ -76,10 +88,213 @@ fn command_line(alloc: Global) -> Result<clap::Command<'static>, AllocError>
     with_option(alloc, command, "timeout")
 }
 
-/// The command of these words, without the program's name.
+/// What `clap` finds in the words.
+fn parsed(alloc: Global, words: &[String]) -> Result<ArgMatches<'_>, WordsRefused>
+    ensures { Parses (map string_bytes words.now) result }
+{
+    let Ok(line) = command_line(alloc) else {
+        return Err(WordsRefused::NoMemory);
+    };
+    match line.try_get_matches_from(words) {
+        Ok(matches) => Ok(matches),
+        Err(error) => match error.kind() {
+            ErrorKind::OutOfMemory => Err(WordsRefused::NoMemory),
+            _ => Err(WordsRefused::Usage),
+        },
+    }
+}
+
+/// What the words give beside the command.
+#[derive(Clone, Copy)]
+struct Given<'a> {
+    operand: Option<&'a str>,
+    json: bool,
+    steps: bool,
+    nodes: Option<&'a str>,
+    timeout: Option<&'a str>,
+}
+
+fn value<'a>(matches: &ArgMatches<'a>, id: &str) -> Option<&'a str>
+    ensures { text_behind result ≡ first_of id.now (rows_of (found_of matches.now)) }
+{
+    matches.get_str(id)
+}
+
+fn is_set(value: Option<&str>) -> bool
+    ensures { result ≡ is_set_of (text_behind value.entry) }
+{
+    match value {
+        Some(text) => text == "true",
+        None => false,
+    }
+}
+
+fn all_given<'a>(matches: &ArgMatches<'a>) -> Given<'a>
+    ensures { given_behind result ≡ given_of (rows_of (found_of matches.now)) }
+{
+    Given {
+        operand: value(matches, "operand"),
+        json: is_set(value(matches, "json")),
+        steps: is_set(value(matches, "steps")),
+        nodes: value(matches, "nodes"),
+        timeout: value(matches, "timeout"),
+    }
+}
+
+fn folder(alloc: Global, operand: &str) -> Result<List<u8>, NoMemory>
+    ensures { IfOk result (λ folder. folder ≡ operand.now) }
+{
+    Ok(List::from_vec(operand.as_bytes().to_vec(alloc)?))
+}
+
+fn number_in(value: Option<&str>, low: u64, high: u64) -> Option<u64>
+    ensures { result ≡ option_and_then (number_within low high) (text_behind value.entry) }
+{
+    number(value?.as_bytes(), low, high)
+}
+
+/// Whether no flag or option is given but those that the command takes.
+fn takes_only(json: bool, steps: bool, options: bool, given: &Given<'_>) -> bool
+    ensures { result ≡ takes_only_of json steps options (given_behind given.now) }
+{
+    (json || !given.json)
+        && ((steps || !given.steps)
+            && (options || !(given.nodes.is_some() || given.timeout.is_some())))
+}
+
+fn run(given: &Given<'_>) -> Option<Command>
+    ensures { result ≡ run_of (given_behind given.now) }
+{
+    if takes_only(true, false, false, given) && given.operand.is_none() {
+        Some(Command::Run { json: given.json })
+    } else {
+        None
+    }
+}
+
+fn run_in(alloc: Global, given: &Given<'_>) -> Result<Option<Command>, NoMemory>
+    ensures { IfOk result (λ read. read ≡ run_in_of (given_behind given.now)) }
+{
+    if !takes_only(true, false, false, given) {
+        return Ok(None);
+    }
+    match given.operand {
+        Some(operand) => Ok(Some(Command::RunIn {
+            folder: folder(alloc, operand)?,
+            json: given.json,
+        })),
+        None => Ok(None),
+    }
+}
+
+fn generate(given: &Given<'_>) -> Option<Command>
+    ensures { result ≡ gen_of (given_behind given.now) }
+{
+    if !takes_only(false, false, false, given) {
+        return None;
+    }
+    Some(Command::Gen {
+        seed: number_in(given.operand, 0, 2_147_483_647)? as u32,
+    })
+}
+
+fn race(given: &Given<'_>) -> Option<Command>
+    ensures { result ≡ race_of (given_behind given.now) }
+{
+    if takes_only(false, true, false, given) && given.operand.is_none() {
+        Some(Command::Race { steps: given.steps })
+    } else {
+        None
+    }
+}
+
+fn upgrade(alloc: Global, given: &Given<'_>) -> Result<Option<Command>, NoMemory>
+    ensures { IfOk result (λ read. read ≡ upgrade_of (given_behind given.now)) }
+{
+    if !takes_only(false, false, false, given) {
+        return Ok(None);
+    }
+    match given.operand {
+        Some(operand) => Ok(Some(Command::Upgrade {
+            folder: folder(alloc, operand)?,
+        })),
+        None => Ok(None),
+    }
+}
+
+fn audit(given: &Given<'_>) -> Option<Command>
+    ensures { result ≡ audit_of (given_behind given.now) }
+{
+    if !takes_only(false, false, false, given) {
+        return None;
+    }
+    Some(Command::Audit {
+        timeout: number_in(given.operand, 1, 1_000_000_000)?,
+    })
+}
+
+fn sizes(given: &Given<'_>) -> Option<(u8, u64)>
+    ensures { result ≡ both (λ nodes timeout. (nodes, timeout)) (option_and_then (number_within 1 9) (text_behind given.now.nodes)) (option_and_then timeout_of (text_behind given.now.timeout)) }
+{
+    let nodes = number_in(given.nodes, 1, 9)? as u8;
+    Some((nodes, number_in(given.timeout, 1, 1_000_000_000)?))
+}
+
+fn salvage(alloc: Global, given: &Given<'_>) -> Result<Option<Command>, NoMemory>
+    ensures { IfOk result (λ read. read ≡ salvage_of (given_behind given.now)) }
+{
+    if !takes_only(false, false, true, given) {
+        return Ok(None);
+    }
+    match (given.operand, sizes(given)) {
+        (Some(operand), Some((nodes, timeout))) => Ok(Some(Command::Salvage {
+            folder: folder(alloc, operand)?,
+            nodes,
+            timeout,
+        })),
+        _ => Ok(None),
+    }
+}
+
+fn command_by(alloc: Global, word: &str, given: &Given<'_>) -> Result<Option<Command>, NoMemory>
+    ensures { IfOk result (λ read. read ≡ command_by_of word.now (given_behind given.now)) }
+{
+    if word == "run" {
+        Ok(run(given))
+    } else if word == "run-in" {
+        run_in(alloc, given)
+    } else if word == "gen" {
+        Ok(generate(given))
+    } else if word == "race" {
+        Ok(race(given))
+    } else if word == "upgrade" {
+        upgrade(alloc, given)
+    } else if word == "audit" {
+        Ok(audit(given))
+    } else if word == "salvage" {
+        salvage(alloc, given)
+    } else {
+        Ok(None)
+    }
+}
+
+fn command_found(alloc: Global, matches: &ArgMatches<'_>) -> Result<Option<Command>, NoMemory>
+    ensures { IfOk result (λ read. read ≡ command_in (rows_of (found_of matches.now))) }
+{
+    match value(matches, "command") {
+        Some(word) => command_by(alloc, word, &all_given(matches)),
+        None => Ok(None),
+    }
+}
+
+/// The command of these words, which do not hold the program's name. Usage comes exactly where `clap` refuses the words, or no
+/// command has the operand, flags and options that they give.
 pub fn command_of(alloc: Global, words: &[String]) -> Result<Command, WordsRefused>
     ensures { Answers (command_of_words (map string_bytes words.now)) result }
 {
-    let _line = command_line(alloc);
-    Err(WordsRefused::NoMemory)
+    let matches = parsed(alloc, words)?;
+    match command_found(alloc, &matches)? {
+        Some(command) => Ok(command),
+        None => Err(WordsRefused::Usage),
+    }
 }

@@ -1,0 +1,4 @@
+//! Reads and writes the language of scripts.
+#![tactic(auto)]
+
+mod steps;
