@@ -7,5 +7,7 @@ pub mod Parts
 pub mod Items
 pub mod Lines
 pub mod Report
+pub mod Extras
+pub mod Runs
 pub mod Json
 pub mod Escapes

@@ -1,5 +1,5 @@
--- A run is read back from the text of its report.
-use Rattle.std.proofs.Common.{◌≡◌, ℕ, ◌+◌, Bool, true, false, nat_lt, cond, slice_index_or, List, [], ◌∷◌, ◌++◌, map, drop, length, codes, refl, sym, ap, ◌∙◌, arith}
+-- The parts of a report are read back from their lines.
+use Rattle.std.proofs.Common.{◌≡◌, ℕ, ◌+◌, Bool, true, false, nat_lt, cond, slice_index_or, List, [], ◌∷◌, ◌++◌, map, drop, length, codes, refl, ap, ◌∙◌, arith}
 use Rattle.std.proofs.lemmas.Bool.Decides.{nat_tests}
 use Rattle.std.specs.Fmt.{decimal}
 use Rattle.ax_types.specs.declared.entries.Act.{Act}
@@ -9,16 +9,14 @@ use Rattle.ax_types.specs.declared.scripts.RunEnd.TheVariants as run_end
 use Rattle.ax_types.specs.declared.items.Item.{Item}
 use Rattle.ax_types.specs.declared.items.Item.TheVariants as item
 use Rattle.ax_types.specs.declared.ops.Op.TheVariants as op
-use Rattle.spec_report.specs.Calls.{one_operand}
-use Rattle.spec_report.specs.Items.{item_line, waiting_line, waiting_text, waiting_of}
-use Rattle.spec_report.specs.Report.{act_text, act_line, act_lines, history_line, history_text, end_word, end_text, report_text}
+use Rattle.spec_report.specs.Items.{item_line, waiting_line}
+use Rattle.spec_report.specs.Report.{act_text, act_line, act_lines, history_line, end_word}
 use Rattle.law_report.specs.Forms.{Each, IsItem, IsAct, IsEntry, IsRunEnd, IsCallNumber}
-use Rattle.law_report.specs.Laws.{TextTellsRun}
-use Rattle.law_report.proofs.Words.{IsLine, word, join, at, is_word, pieces, pieces-join, pieces-lacks, above-lacks}
+use Rattle.law_report.proofs.Words.{IsLine, word, join, at, is_word, pieces}
 use Rattle.law_report.proofs.Numbers.{number_back, number-back, number_line, decimal-begins}
 use Rattle.law_report.proofs.Operations.{op_words, op_back, op-line, op-back}
 use Rattle.law_report.proofs.Items.{item_words, item_back, item-line, item-back}
-use Rattle.law_report.proofs.Lines.{one_value, AreLines, pieces-lines, same_first, same_rest, one_list, NoneIs, opens, one_cut, same_behind}
+use Rattle.law_report.proofs.Lines.{one_value, AreLines, same_first, same_rest, NoneIs}
 
 -- ---- items
 
@@ -30,7 +28,7 @@ items_are_lines [] h = tt
 items_are_lines (x ∷ xs) h = ((item-line x h.0).bytes, items_are_lines xs h.1)
 
 -- whether a line's first word is `history`
-abbrev is_history : List ℕ → Bool
+abbrev pub is_history : List ℕ → Bool
 is_history l = is_word (at 0 (pieces 32 l)) (codes "history")
 
 item_is_no_history : (x : Item) → is_word (at 0 (item_words x)) (codes "history") ≡ false
@@ -53,7 +51,7 @@ item_is_no_history (item.Listed count) = refl
 item_is_no_history (item.Pending number from to kind) = refl
 item_is_no_history (item.Skip reason) = refl
 
-items_are_no_history : (xs : List Item) → Each IsItem xs → NoneIs is_history (map item_line xs)
+pub items_are_no_history : (xs : List Item) → Each IsItem xs → NoneIs is_history (map item_line xs)
 items_are_no_history [] h = tt
 items_are_no_history (x ∷ xs) h =
     (ap (λ ws. is_word (at 0 ws) (codes "history")) (item-line x h.0).words ∙ item_is_no_history x, items_are_no_history xs h.1)
@@ -128,22 +126,22 @@ acts_are_lines place [] h = tt
 acts_are_lines place (x ∷ xs) h = ((entry-line place x h.0).bytes, acts_are_lines (place + 1) xs h.1)
 
 -- whether a line's first byte is above the digits
-abbrev is_past_digits : List ℕ → Bool
+abbrev pub is_past_digits : List ℕ → Bool
 is_past_digits l = nat_lt 57 (slice_index_or l 0 0)
 
 begins_with_digit : (xs ys : List ℕ) → nat_lt (slice_index_or xs 0 100) 58 ≡ true → is_past_digits (xs ++ ys) ≡ false
 begins_with_digit [] ys h = cc
 begins_with_digit (x ∷ xs) ys h = grind (arith, nat_tests)
 
-acts_begin_with_digits : (place : ℕ) (xs : List (ℕ × Act)) → NoneIs is_past_digits (act_lines place xs)
+pub acts_begin_with_digits : (place : ℕ) (xs : List (ℕ × Act)) → NoneIs is_past_digits (act_lines place xs)
 acts_begin_with_digits place [] = tt
 acts_begin_with_digits place (x ∷ xs) =
     (begins_with_digit (decimal place) (32 ∷ (decimal x.0 ++ (32 ∷ act_text x.1))) (decimal-begins place), acts_begin_with_digits (place + 1) xs)
 
-history-line : (xs : List (ℕ × Act)) → IsLine (history_line xs) (codes "history" ∷ decimal (length xs) ∷ [])
+pub history-line : (xs : List (ℕ × Act)) → IsLine (history_line xs) (codes "history" ∷ decimal (length xs) ∷ [])
 history-line xs = join (word (codes "history") refl) (number_line (length xs))
 
-is_history_line : (xs : List (ℕ × Act)) → is_history (history_line xs) ≡ true
+pub is_history_line : (xs : List (ℕ × Act)) → is_history (history_line xs) ≡ true
 is_history_line xs = ap (λ ws. is_word (at 0 ws) (codes "history")) (history-line xs).words
 
 -- ---- calls that wait, and ends
@@ -180,70 +178,3 @@ end-back (run_end.StepLimit line) h = λ i. run_end.StepLimit (number-back line 
 
 pub one_end : (x y : RunEnd) → IsRunEnd x → IsRunEnd y → end_word x ≡ end_word y → x ≡ y
 one_end x y h k e = one_value end_back x y (end_word-line x) (end_word-line y) (end-back x h) (end-back y k) e
-
--- ---- the lines of a report
-
--- the lines behind the history, and what is left behind the last newline
-abbrev tail_lines : List (ℕ × ℕ) → RunEnd → List (List ℕ)
-tail_lines waiting end = map waiting_line waiting ++ (one_operand (codes "end") (end_word end) ∷ [] ∷ [])
-
-tail_is_past_digits : (waiting : List (ℕ × ℕ)) (end : RunEnd) → opens is_past_digits (tail_lines waiting end) ≡ true
-tail_is_past_digits [] end = refl
-tail_is_past_digits (a ∷ waiting) end = refl
-
-end-pieces : (end : RunEnd) → pieces 10 (end_text end) ≡ one_operand (codes "end") (end_word end) ∷ [] ∷ []
-end-pieces end =
-    let line = join (word (codes "end") refl) (end_word-line end) in
-    pieces-join 10 (one_operand (codes "end") (end_word end)) []
-    ∙ ap (λ ls. ls ++ ([] ∷ [])) (pieces-lacks 10 (one_operand (codes "end") (end_word end)) (above-lacks 31 10 refl (one_operand (codes "end") (end_word end)) line.bytes))
-
--- the lines behind the head
-abbrev body_lines : List Item → List (ℕ × Act) → RunEnd → List (List ℕ)
-body_lines items history end =
-    map item_line items ++ (history_line history ∷ (act_lines 1 history ++ tail_lines (waiting_of items) end))
-
-report-pieces : (items : List Item) (history : List (ℕ × Act)) (end : RunEnd) → Each IsItem items → Each IsEntry history
-    → pieces 10 (report_text items history end) ≡ codes "report 1" ∷ body_lines items history end
-report-pieces items history end h k =
-    let behind = waiting_text (waiting_of items) ++ end_text end in
-    ap (λ ls. codes "report 1" ∷ ls)
-    (pieces-lines (map item_line items) (history_text history ++ behind) (items_are_lines items h)
-    ∙ ap (λ ls. map item_line items ++ ls)
-    (pieces-lines (history_line history ∷ act_lines 1 history) behind ((history-line history).bytes, acts_are_lines 1 history k)
-    ∙ ap (λ ls. history_line history ∷ (act_lines 1 history ++ ls))
-    (pieces-lines (map waiting_line (waiting_of items)) (end_text end) (waiting_are_lines (waiting_of items))
-    ∙ ap (λ ls. map waiting_line (waiting_of items) ++ ls) (end-pieces end))))
-
--- ---- runs
-
-one_body :
-    (items jtems : List Item) (history kistory : List (ℕ × Act)) (end fend : RunEnd)
-    → Each IsItem items → Each IsItem jtems → Each IsEntry history → Each IsEntry kistory → IsRunEnd end → IsRunEnd fend
-    → body_lines items history end ≡ body_lines jtems kistory fend
-    → (items ≡ jtems) × (history ≡ kistory) × (end ≡ fend)
-one_body items jtems history kistory end fend a b c d f g e =
-    let us = act_lines 1 history ++ tail_lines (waiting_of items) end in
-    let vs = act_lines 1 kistory ++ tail_lines (waiting_of jtems) fend in
-    let cut = one_cut is_history (map item_line items) (map item_line jtems) (history_line history ∷ us) (history_line kistory ∷ vs)
-    (items_are_no_history items a) (items_are_no_history jtems b) (is_history_line history) (is_history_line kistory) e in
-    let same_items = one_list IsItem item_line one_item items jtems a b cut.0 in
-    let split = one_cut is_past_digits (act_lines 1 history) (act_lines 1 kistory) (tail_lines (waiting_of items) end) (tail_lines (waiting_of jtems) fend)
-    (acts_begin_with_digits 1 history) (acts_begin_with_digits 1 kistory)
-    (tail_is_past_digits (waiting_of items) end) (tail_is_past_digits (waiting_of jtems) fend)
-    (same_rest (history_line history) (history_line kistory) us vs cut.1) in
-    let same_tail : tail_lines (waiting_of items) end ≡ tail_lines (waiting_of items) fend =
-    split.1 ∙ ap (λ is. tail_lines (waiting_of is) fend) (sym same_items) in
-    let ends : one_operand (codes "end") (end_word end) ∷ [] ∷ [] ≡ one_operand (codes "end") (end_word fend) ∷ [] ∷ [] =
-    same_behind (map waiting_line (waiting_of items)) _ _ same_tail in (
-      same_items,
-      one_history 1 history kistory c d split.0,
-      one_end end fend f g (ap (λ l. drop 4 l) (same_first [] _ _ _ _ ends)),
-    )
-
-pub text_tells_run : TextTellsRun
-text_tells_run one other h k e =
-    let same = one_body one.items other.items one.history other.history one.end other.end h.items k.items h.history k.history h.end k.end
-    (same_rest (codes "report 1") (codes "report 1") _ _
-    (sym (report-pieces one.items one.history one.end h.items h.history)
-    ∙ (ap (pieces 10) e ∙ report-pieces other.items other.history other.end k.items k.history))) in
-    λ i. record { items = same.0 i; history = same.1 i; end = same.2 i }

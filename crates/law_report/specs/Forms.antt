@@ -32,6 +32,8 @@ use Rattle.ax_types.specs.declared.replies.Reply.{Reply}
 use Rattle.ax_types.specs.declared.replies.Reply.TheVariants as reply
 use Rattle.ax_types.specs.declared.replies.Event.{Event}
 use Rattle.ax_types.specs.declared.replies.Event.TheVariants as event
+use Rattle.ax_types.specs.declared.replies.Outcome.{Outcome}
+use Rattle.ax_types.specs.declared.replies.Outcome.TheVariants as outcome
 use Rattle.ax_types.specs.declared.ids.End.{End}
 use Rattle.ax_types.specs.declared.ids.End.TheVariants as link_end
 use Rattle.ax_types.specs.declared.items.SkipReason.{SkipReason}
@@ -165,13 +167,23 @@ IsEvent (event.Left name session) = IsName name × IsNumber session
 IsEvent (event.Elected name session term) = IsName name × IsNumber session × IsNumber term
 IsEvent (event.Message name text) = IsName name × IsText text
 
-abbrev pub IsEnd : End → Type 0
-IsEnd (link_end.Node k) = IsNumber k
-IsEnd (link_end.Client c) = IsNumber c
-
 abbrev pub IsReach : Option (ℕ × ℕ) → Type 0
 IsReach None = Unit {0}
 IsReach (Some reach) = IsNumber reach.0 × IsNumber reach.1
+
+-- what a caller's line may tell; a caller writes no line of a call that was stopped
+abbrev pub IsOutcome : Outcome → Type 0
+IsOutcome (outcome.Reply place reply) = IsNumber place × IsReply reply
+IsOutcome (outcome.Read level place reach reply) = IsNumber place × IsReach reach × IsReply reply
+IsOutcome outcome.Doubt = Unit {0}
+IsOutcome outcome.Lost = Unit {0}
+IsOutcome outcome.Unsent = Unit {0}
+IsOutcome outcome.Unanswered = Unit {0}
+IsOutcome outcome.Stopped = ⊥
+
+abbrev pub IsEnd : End → Type 0
+IsEnd (link_end.Node k) = IsNumber k
+IsEnd (link_end.Client c) = IsNumber c
 
 abbrev pub IsSkip : SkipReason → Type 0
 IsSkip (skip.Busy unanswered) = IsNumber unanswered

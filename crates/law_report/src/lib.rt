@@ -1,11 +1,26 @@
 //! Different runs have different reports, in text and in JSON.
 #![tactic(auto)]
 
-ghost use Rattle.law_report.specs.Laws.{TextTellsRun, JsonTellsRun, JsonTellsReport, EscapesQuotesAlone, IsRun, one_add_run};
+ghost use Rattle.law_report.specs.Laws.{TextTellsRun, RaceTextTellsRun, CallerTextTells, FeedTextTells, JsonTellsRun, JsonTellsReport, EscapesQuotesAlone, IsRun, first_run};
 
 /// Runs whose reports have one text are one run: the items, the history and the end are told apart.
 pub fn text_tells_run()
     ensures { TextTellsRun }
+{}
+
+/// Runs with callers and feeds whose reports have one text are one run, with the same lines of callers and feeds.
+pub fn race_text_tells_run()
+    ensures { RaceTextTellsRun }
+{}
+
+/// Lines of callers with one text tell one caller, one number and one outcome.
+pub fn caller_text_tells()
+    ensures { CallerTextTells }
+{}
+
+/// Lines of feeds with one text tell one feed and one event.
+pub fn feed_text_tells()
+    ensures { FeedTextTells }
 {}
 
 /// Runs whose reports have one JSON text are one run.
@@ -23,7 +38,7 @@ pub fn json_escapes_quotes_alone()
     ensures { EscapesQuotesAlone }
 {}
 
-/// The values of a run as they come are within their types, as these laws ask.
-pub fn one_add_is_run()
-    ensures { IsRun one_add_run }
+/// A run with values within their types, as these laws ask for.
+pub fn first_run_is_within_types()
+    ensures { IsRun first_run }
 {}

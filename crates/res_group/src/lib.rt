@@ -169,7 +169,7 @@ impl GroupBox {
             Some(session) => {
                 if !self.leads(session) {
                     let elected = elected(name, session, place)?;
-                    self.listeners.tell_too(&elected, &mut told)?;
+                    self.listeners.tell_too(&mut told, &elected)?;
                 }
                 Ok(told)
             }

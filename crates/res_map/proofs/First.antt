@@ -54,14 +54,14 @@ least_end : (time : ℕ) (key : List ℕ) (es : List (List ℕ × MapItem)) (ite
 least_end time key [] item a f e = cc
 least_end time key (x ∷ es) item a f e = by_key (is_at (bytes_cmp key) x.0) refl (λ g. least_end time key es item a.1 g e)
   where
-  by_key : (b : Bool) → is_at (bytes_cmp key) x.0 ≡ b → (found es key ≡ Some item → first_end es ≡ Some time) → first_end (x ∷ es) ≡ Some time
-  by_key true h more =
-      let t : Some x.1 ≡ Some item = sym (ap (λ (b : Bool). cond b (Some x.1) (found es key)) h) ∙ f in
-      let same : x.1 ≡ item = cc in
-      ap (λ (v : Option ℕ). earlier v (first_end es)) (ap (λ (v : MapItem). end_of v.life) same ∙ e) ∙ earlier_left time (first_end es) (first_end_from time es a.1)
-  by_key false h more =
-      let g : found es key ≡ Some item = sym (ap (λ (b : Bool). cond b (Some x.1) (found es key)) h) ∙ f in
-      ap (λ (v : Option ℕ). earlier (end_of x.1.life) v) (more g) ∙ earlier_right time (end_of x.1.life) a.0
+    by_key : (b : Bool) → is_at (bytes_cmp key) x.0 ≡ b → (found es key ≡ Some item → first_end es ≡ Some time) → first_end (x ∷ es) ≡ Some time
+    by_key true h more =
+        let t : Some x.1 ≡ Some item = sym (ap (λ (b : Bool). cond b (Some x.1) (found es key)) h) ∙ f in
+        let same : x.1 ≡ item = cc in
+        ap (λ (v : Option ℕ). earlier v (first_end es)) (ap (λ (v : MapItem). end_of v.life) same ∙ e) ∙ earlier_left time (first_end es) (first_end_from time es a.1)
+    by_key false h more =
+        let g : found es key ≡ Some item = sym (ap (λ (b : Bool). cond b (Some x.1) (found es key)) h) ∙ f in
+        ap (λ (v : Option ℕ). earlier (end_of x.1.life) v) (more g) ∙ earlier_right time (end_of x.1.life) a.0
 
 -- ---- entries and their index
 -- the end of an entry stands in the index
@@ -75,13 +75,13 @@ index_from : (time : ℕ) (ds : List (ℕ × List ℕ)) → AllByRecursion (λ d
 index_from time [] a end key h = cc
 index_from time (d ∷ ds) a end key h = by_test (is_at (deadline_cmp (end, key)) d) refl (index_from time ds a.1 end key)
   where
-  by_test : (b : Bool) → is_at (deadline_cmp (end, key)) d ≡ b → (has_deadline ds end key ≡ true → time ≤ end) → time ≤ end
-  by_test true e more =
-      let p = parts_true (is_at (nat_cmp end) d.0) (is_at (bytes_cmp key) d.1) (sym (is_eq-ordering_then (nat_cmp end d.0) (bytes_cmp key d.1)) ∙ e) in
-      let same : end ≡ d.0 = tells_apart exact_unsigned end d.0 p.0 in
-      let l : time ≤ d.0 = a.0 in
-      omega arith
-  by_test false e more = more (sym (ap (λ (b : Bool). b || has_deadline ds end key) e) ∙ h)
+    by_test : (b : Bool) → is_at (deadline_cmp (end, key)) d ≡ b → (has_deadline ds end key ≡ true → time ≤ end) → time ≤ end
+    by_test true e more =
+        let p = parts_true (is_at (nat_cmp end) d.0) (is_at (bytes_cmp key) d.1) (sym (is_eq-ordering_then (nat_cmp end d.0) (bytes_cmp key d.1)) ∙ e) in
+        let same : end ≡ d.0 = tells_apart exact_unsigned end d.0 p.0 in
+        let l : time ≤ d.0 = a.0 in
+        omega arith
+    by_test false e more = more (sym (ap (λ (b : Bool). b || has_deadline ds end key) e) ∙ h)
 
 -- what holds of each item that is found holds of all items
 all_items : (P : MapItem → Type 0) (es : List (List ℕ × MapItem)) → IsStrictlySortedBy bytes_cmp (keys_of es)
@@ -90,9 +90,9 @@ all_items P es sorted f =
     recursion_from_All P (values_of es)
     (All-values_from_lookup keys_equiv P es (IsDistinct-from_sorted bytes_cmp (keys_of es) sorted) (λ key. by_item key (found es key) refl))
   where
-  by_item : (key : List ℕ) (o : Option MapItem) → found es key ≡ o → IfSome o P
-  by_item key None e = tt
-  by_item key (Some item) e = f key item e
+    by_item : (key : List ℕ) (o : Option MapItem) → found es key ≡ o → IfSome o P
+    by_item key None e = tt
+    by_item key (Some item) e = f key item e
 
 -- an end that is at the time
 end_at : (end : Option ℕ) (time : ℕ) → is_end end time ≡ true → end ≡ Some time
@@ -104,22 +104,22 @@ entry_at : (es : List (List ℕ × MapItem)) (key : List ℕ) (time : ℕ) → i
     → (item : MapItem) × (found es key ≡ Some item) × (end_of item.life ≡ Some time)
 entry_at es key time h = by_item (found es key) refl h
   where
-  by_item : (o : Option MapItem) → found es key ≡ o → is_end (item_end o) time ≡ true → (item : MapItem) × (found es key ≡ Some item) × (end_of item.life ≡ Some time)
-  by_item None e h = cc
-  by_item (Some item) e h = (item, e, end_at (end_of item.life) time h)
+    by_item : (o : Option MapItem) → found es key ≡ o → is_end (item_end o) time ≡ true → (item : MapItem) × (found es key ≡ Some item) × (end_of item.life ≡ Some time)
+    by_item None e h = cc
+    by_item (Some item) e h = (item, e, end_at (end_of item.life) time h)
 
 pub first_end-index : (es : List (List ℕ × MapItem)) (ds : List (ℕ × List ℕ)) → IsStrictlySortedBy bytes_cmp (keys_of es) → IsIndexed es ds
     → IfSome (first_time ds) (λ time. All (λ d. time ≤ d.0) ds) → first_time ds ≡ first_end es
 first_end-index es [] sorted in_step least =
     sym (no_end es (all_items (λ (item : MapItem). end_of item.life ≡ None) es sorted (λ key item f. none (end_of item.life) (λ end e. end_in_index es [] in_step key item end f e))))
   where
-  none : (end : Option ℕ) → ((time : ℕ) → end ≡ Some time → false ≡ true) → end ≡ None
-  none None f = refl
-  none (Some time) f = let t : false ≡ true = f time refl in cc
+    none : (end : Option ℕ) → ((time : ℕ) → end ≡ Some time → false ≡ true) → end ≡ None
+    none None f = refl
+    none (Some time) f = let t : false ≡ true = f time refl in cc
 first_end-index es (d ∷ ds) sorted in_step least =
     let from : AllByRecursion (λ x. d.0 ≤ x.0) (d ∷ ds) = recursion_from_All (λ (x : ℕ × List ℕ). d.0 ≤ x.0) (d ∷ ds) least in
     let here : has_deadline (d ∷ ds) d.0 d.1 ≡ true = ap (λ (b : Bool). b || has_deadline ds d.0 d.1) (deadline_at_itself d.0 d.1 d refl (key_at_itself d.1)) in
     let e = entry_at es d.1 d.0 (sym (in_step d.0 d.1) ∙ here) in
     sym (least_end d.0 d.1 es e.0
-         (all_items (EndsFrom d.0) es sorted (λ key item f end g. index_from d.0 (d ∷ ds) from end key (end_in_index es (d ∷ ds) in_step key item end f g)))
-         e.1 e.2)
+    (all_items (EndsFrom d.0) es sorted (λ key item f end g. index_from d.0 (d ∷ ds) from end key (end_in_index es (d ∷ ds) in_step key item end f g)))
+    e.1 e.2)

@@ -4,3 +4,6 @@
 mod deadlines;
 mod entries;
 mod items;
+mod map;
+
+pub use map::MapBox;

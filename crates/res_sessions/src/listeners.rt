@@ -94,28 +94,13 @@ impl Listeners {
         ensures { IfOk result (λ told. told ≡ tell self.now event.now) }
     {
         let mut told = List::with_capacity(self.alloc, self.sessions.len())?;
-        self.tell_too(event, &mut told)?;
+        self.tell_too(&mut told, event)?;
         Ok(told)
-    }
-
-    /// The event for each listener, in ascending order of session, after what is told already. After want of memory that
-    /// list is spent.
-    pub fn tell_too(&self, event: &Event, told: &mut List<(u64, Event)>) -> Result<(), NoMemory>
-        ensures { OnOk result (told.new ≡ told.old ++ tell self.now event.now) }
-    {
-        for session in self.sessions.iter() {
-            told.push((*session, event.copy()?))?;
-        }
-        Ok(())
     }
 
     /// Appends the event for each listener, in ascending order of session, to what is told already. After want of
     /// memory the list may have some of them.
-    pub fn tell_too(
-        &self,
-        told: &mut List<(u64, Event)>,
-        event: &Event,
-    ) -> Result<(), NoMemory>
+    pub fn tell_too(&self, told: &mut List<(u64, Event)>, event: &Event) -> Result<(), NoMemory>
         ensures { OnOk result (told.new ≡ told.old ++ tell self.now event.now) }
     {
         for session in self.sessions.iter() {

@@ -1,2 +1,2 @@
 pub mod LongLemmas
-pub mod RunLemmas
+pub mod ReportLemmas

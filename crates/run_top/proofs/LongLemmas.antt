@@ -1,6 +1,6 @@
 -- A book of longs alone is turned as the longs are.
-use Rattle.std.proofs.Common.{◌≡◌, ℕ, ℤ, pos, Bool, true, false, cond, List, [], ◌∷◌, map, length, refl, ap, suc}
-use Rattle.std.specs.Prelude.{Option, Some, None, nat_le, Result, Ok, Err, OnOk}
+use Rattle.std.proofs.Common.{◌≡◌, ℕ, ℤ, pos, Bool, true, false, cond, List, [], ◌∷◌, map, length, refl, ap, sym, ◌∙◌, suc}
+use Rattle.std.specs.Prelude.{Option, Some, None, nat_le, Result, Ok, Err, OnOk, IfOk}
 use Rattle.std.specs.Option.{option_map}
 use Rattle.std.specs.declared.cmp.Ordering.{Ordering}
 use Rattle.std.specs.declared.cmp.Ordering.TheVariants.{Less, Equal, Greater}
@@ -11,6 +11,7 @@ use Rattle.spec_book.specs.Limits.{is_full, room}
 use Rattle.spec_book.specs.Dict.{bytes_cmp, found, with_entry}
 use Rattle.spec_book.specs.Resources.{Resource, ALong, Acted, replied}
 use Rattle.ax_types.specs.declared.replies.Reply.TheVariants as reply
+use Rattle.ax_types.specs.declared.replies.Turn.{Turn}
 use Rattle.spec_book.specs.Scalars.{long_act}
 use Rattle.spec_book.specs.Book.{Book, acted, pass, passed, turn, turn_at, at_name, at_kind}
 use Rattle.ax_types.specs.declared.entries.Act.TheVariants as act
@@ -79,7 +80,20 @@ pub long_acted : (es : List (List ℕ × ℤ)) (place session : ℕ) (name : Lis
     → acted (longs_book es) place 0 (act.Do session name (op.Long o)) ≡ lifted (long_turn es name o)
 long_acted es place session name o = rw (longs_passed 0 es, longs_pass 0 es) (long_turned es place session name o)
 
--- what holds on `Ok` by something that holds on `Ok`
-pub on_ok : {T E : Type 0} {P Q : Type 0} (r : Result T E) → (P → Q) → OnOk r P → OnOk r Q
-on_ok (Ok x) f h = f h
-on_ok (Err e) f h = h
+-- the turn of a command of a long, at the book of some longs
+pub longs_answer : {E : Type 0} (es : List (List ℕ × ℤ)) (book : Book) (place session : ℕ) (name : List ℕ) (o : LongOp) (r : Result Turn E)
+    → longs_book es ≡ book → IfOk r (λ t. t ≡ (long_turn es name o).turn)
+    → IfOk r (λ t. t ≡ (acted book place 0 (act.Do session name (op.Long o))).turn)
+longs_answer es book place session name o (Err x) e h = h
+longs_answer es book place session name o (Ok t) e h =
+    h ∙ sym (ap (λ (a : Acted Book). a.turn) (long_acted es place session name o))
+    ∙ ap (λ (b : Book). (acted b place 0 (act.Do session name (op.Long o))).turn) e
+
+-- the book after a command of a long, at the book of some longs
+pub longs_after : {A E : Type 0} (es now : List (List ℕ × ℤ)) (book : Book) (place session : ℕ) (name : List ℕ) (o : LongOp) (r : Result A E)
+    → longs_book es ≡ book → OnOk r (now ≡ (long_turn es name o).state)
+    → OnOk r (longs_book now ≡ (acted book place 0 (act.Do session name (op.Long o))).state)
+longs_after es now book place session name o (Err x) e h = h
+longs_after es now book place session name o (Ok t) e h =
+    ap longs_book h ∙ sym (ap (λ (a : Acted Book). a.state) (long_acted es place session name o))
+    ∙ ap (λ (b : Book). (acted b place 0 (act.Do session name (op.Long o))).state) e

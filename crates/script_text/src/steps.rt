@@ -110,21 +110,25 @@ fn end(word: &[u8], sizes: Sizes) -> Option<End>
 }
 
 /// Whether the ends differ and not both are clients.
-fn is_link(one: End, other: End) -> bool
-    ensures { result ≡ is_link_of one other }
+fn is_link(one: &End, other: &End) -> bool
+    ensures { result ≡ is_link_of one.now other.now }
 {
-    match (one, other) {
-        (End::Node(a), End::Node(b)) => a.number() != b.number(),
-        (End::Node(_), End::Client(_)) => true,
-        (End::Client(_), End::Node(_)) => true,
-        (End::Client(_), End::Client(_)) => false,
+    match one {
+        End::Node(a) => match other {
+            End::Node(b) => a.number() != b.number(),
+            End::Client(_) => true,
+        },
+        End::Client(_) => match other {
+            End::Node(_) => true,
+            End::Client(_) => false,
+        },
     }
 }
 
 fn link_of_ends(one: End, other: End) -> Option<(End, End)>
     ensures { result ≡ link_between one other }
 {
-    if is_link(one, other) {
+    if is_link(&one, &other) {
         Some((one, other))
     } else {
         None
@@ -209,7 +213,12 @@ fn made_call(client: ClientId, call: WindowCall) -> Step
 {
     match call {
         WindowCall::Command { name, op } => Step::Call { client, name, op },
-        WindowCall::Query { level, name, query } => Step::Query { client, level, name, query },
+        WindowCall::Query { level, name, query } => Step::Query {
+            client,
+            level,
+            name,
+            query,
+        },
     }
 }
 

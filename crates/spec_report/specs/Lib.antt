@@ -3,4 +3,3 @@ pub mod Replies
 pub mod Items
 pub mod Report
 pub mod Json
-pub mod Examples

@@ -67,12 +67,24 @@ outcome_text outcome.Unsent = codes "unsent"
 outcome_text outcome.Unanswered = codes "unanswered"
 outcome_text outcome.Stopped = []
 
--- the line of a caller's call, with the number of the call in the session, and with its newline: `caller I N OUTCOME`
-abbrev pub caller_text : ℕ → ℕ → Outcome → List ℕ
-caller_text caller number outcome =
-    three_operands (codes "caller") (decimal caller) (decimal number) (outcome_text outcome) ++ (10 ∷ [])
+-- the line of a caller's call, with the number of the call in the session: `caller I N OUTCOME`
+abbrev pub caller_line : ℕ → ℕ → Outcome → List ℕ
+caller_line caller number outcome = three_operands (codes "caller") (decimal caller) (decimal number) (outcome_text outcome)
 
--- the line of an event that a feed's listener heard, with its newline: `feed F C KIND S P EVENT`
+-- that line with its newline
+abbrev pub caller_text : ℕ → ℕ → Outcome → List ℕ
+caller_text caller number outcome = caller_line caller number outcome ++ (10 ∷ [])
+
+-- the line of an event that a feed's listener heard: `feed F C KIND S P EVENT`
+abbrev pub feed_line : ℕ → ℕ → WatchKind → ℕ → ℕ → Event → List ℕ
+feed_line feed client kind session place event =
+    told_text (three_operands (codes "feed") (decimal feed) (decimal client) (watch_text kind)) session place event
+
+-- that line with its newline
 abbrev pub feed_text : ℕ → ℕ → WatchKind → ℕ → ℕ → Event → List ℕ
-feed_text feed client kind session place event =
-    told_text (three_operands (codes "feed") (decimal feed) (decimal client) (watch_text kind)) session place event ++ (10 ∷ [])
+feed_text feed client kind session place event = feed_line feed client kind session place event ++ (10 ∷ [])
+
+-- the report of a run with callers and feeds, whose lines stand before the last one
+abbrev pub race_text : List Item → List (ℕ × Act) → List (List ℕ) → RunEnd → List ℕ
+race_text items history lines end =
+    head_text ++ (items_text items ++ (history_text history ++ (waiting_text (waiting_of items) ++ (lines_text lines ++ end_text end))))

@@ -1,5 +1,5 @@
 -- The run of a list of steps, and the steps of a script.
-use Rattle.std.specs.Prelude.{ℕ, ◌≡◌, ◌⊎◌, Bool, true, ◌&&◌, Option, Some, None, List, [], ◌∷◌, length, map, flat_map}
+use Rattle.std.specs.Prelude.{ℕ, ◌≡◌, ◌≤◌, ◌⊎◌, Bool, true, ◌&&◌, Option, Some, None, List, [], ◌∷◌, length, map, flat_map}
 use Rattle.ax_types.specs.declared.scripts.Line.{Line}
 use Rattle.ax_types.specs.declared.scripts.Line.TheVariants as line
 use Rattle.ax_types.specs.declared.scripts.RunEnd.{RunEnd}
@@ -92,4 +92,5 @@ end_at (Some n) = ends.StepLimit n.line
 -- the steps are those of the script, all of them or as many as a run may have
 pub record Unfolds (w : World) (works : List Work) (steps : List KeptStep) : Type 0 where
   pub same : steps ≡ unfolded w works (map (λ s. s.outcome) steps)
+  pub within : length steps ≤ most_steps
   pub whole : (left_after w works steps ≡ None) ⊎ (length steps ≡ most_steps)

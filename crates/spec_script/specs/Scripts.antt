@@ -43,12 +43,17 @@ new_draft nodes clients timeout = record {
   totals = replicate 16 0;
 }
 
+-- by the three words of a cluster line that are always the same
+abbrev pub is_cluster_line : Word → Word → Word → Bool
+is_cluster_line a b c = bytes_eq a (codes "cluster") && (bytes_eq b (codes "clients") && bytes_eq c (codes "timeout"))
+
+-- by its numbers of nodes and clients and its timeout
+abbrev pub sized_draft : Word → Word → Word → Option Draft
+sized_draft n m t = option_and_then (λ nodes. both (new_draft nodes) (client_of 16 m) (timeout_of t)) (node_of 9 n)
+
 -- `cluster N clients M timeout T`
 abbrev pub cluster_of : List Word → Option Draft
-cluster_of (a ∷ n ∷ b ∷ m ∷ c ∷ t ∷ []) =
-    if bytes_eq a (codes "cluster") && (bytes_eq b (codes "clients") && bytes_eq c (codes "timeout"))
-    then option_and_then (λ nodes. both (new_draft nodes) (client_of 16 m) (timeout_of t)) (node_of 9 n)
-    else None
+cluster_of (a ∷ n ∷ b ∷ m ∷ c ∷ t ∷ []) = if is_cluster_line a b c then sized_draft n m t else None
 cluster_of _ = None
 
 -- a line after the cluster line that `run` takes: a step, `flush` or `settle K`

@@ -12,9 +12,10 @@ returns-in-Ok-try_get_matches_from c =
     let line : App = app_of c.in-Ok.line in
     let is_axrun : line ≡ axrun = c.in-Ok.ensures in
     let words : List Text = map string_bytes c.args.words.now in
-    let no_fault : fault_of line words ≡ [] = c.in-Ok-try_get_matches_from.ensures.kinds (is_simple_and_free-line line is_axrun) in
-    (ap (λ (a : App). is_empty (fault_of a words)) (sym is_axrun) ∙ ap is_empty no_fault,
-    (c.in-Ok-try_get_matches_from.ensures.matches (is_simple-line line is_axrun)).0 ∙ ap (λ (a : App). matches_of a words) is_axrun)
+    let no_fault : fault_of line words ≡ [] = c.in-Ok-try_get_matches_from.ensures.kinds (is_simple_and_free-line line is_axrun) in (
+      ap (λ (a : App). is_empty (fault_of a words)) (sym is_axrun) ∙ ap is_empty no_fault,
+      (c.in-Ok-try_get_matches_from.ensures.matches (is_simple-line line is_axrun)).0 ∙ ap (λ (a : App). matches_of a words) is_axrun,
+    )
 
 pub returns : goal.returns
 returns c =

@@ -10,10 +10,13 @@ use Rattle.res_map.proofs.deadlines.Deadlines.passed.Goals as goal
 use Rattle.res_map.proofs.deadlines.Deadlines.passed.Goals.{in-None, in-Some+then-end-from}
 
 pub loop-end-preserved : goal.loop-end-preserved
-loop-end-preserved c = (c.in_ok-insert.ensures.ordered, λ key.
-    rw map-append
-    (has_passed-push c.args.time (map deref c.loop-end.yielded) c.in-Some.field-0.now c.loop-end.keys.keys c.insert.new.self.keys (omega arith)
-    c.loop-end.invariant.1 (λ q. rw (← c.in_ok-copy.ensures) (c.in_ok-insert.ensures.updates.0 q)) key))
+loop-end-preserved c = (
+  c.in_ok-insert.ensures.ordered,
+  λ key.
+      rw map-append
+      (has_passed-push c.args.time (map deref c.loop-end.yielded) c.in-Some.field-0.now c.loop-end.keys.keys c.insert.new.self.keys (omega arith)
+      c.loop-end.invariant.1 (λ q. rw (← c.in_ok-copy.ensures) (c.in_ok-insert.ensures.updates.0 q)) key),
+)
 
 pub returns-clause-keys : goal.returns-clause-keys
 returns-clause-keys c = λ key.

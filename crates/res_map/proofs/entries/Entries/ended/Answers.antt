@@ -18,5 +18,5 @@ returns-clause-keys c =
     (λ (keys : BTreeSet (List ℕ)). (key : List ℕ) → list_any (is_at (bytes_cmp key)) keys.keys ≡ has_passed time ds key)
     (λ keys. IsStrictlySortedBy bytes_cmp keys.keys) (λ keys. keys.keys ≡ ended_keys time c.args.self.now)
     (λ keys has in_order. keys_are_ended time es ds keys.keys c.self.invariant.0 c.self.invariant.1 in_order has
-                          ∙ ap (λ (es : List (List ℕ × MapItem)). ended_keys time es) c.self.view_is)
+    ∙ ap (λ (es : List (List ℕ × MapItem)). ended_keys time es) c.self.view_is)
     c.passed.ensures.keys c.passed.ensures.ascending

@@ -11,4 +11,4 @@ returns c =
     let ds = c.self.inside.deadlines in
     c.first.ensures.time
     ∙ (first_end-index c.self.inside.items.entries ds c.self.invariant.0 c.self.invariant.1 (rw (← c.first.ensures.time) c.first.ensures.least)
-       ∙ ap (λ (es : List (List ℕ × MapItem)). first_end es) c.self.view_is)
+    ∙ ap (λ (es : List (List ℕ × MapItem)). first_end es) c.self.view_is)

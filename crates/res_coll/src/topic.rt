@@ -1,0 +1,135 @@
+ghost use Rattle.std.specs.Prelude.{◌≡◌, [], IfOk, OnOk, OnErr};
+ghost use Rattle.spec_book.specs.Dict.{without_session};
+ghost use Rattle.spec_book.specs.Resources.{replied};
+ghost use Rattle.spec_book.specs.Collections.{topic_act, topic_ask};
+
+use ax_types::{Duplicate, Event, List, Name, NoMemory, Reply, Text, TopicOp, TopicQuery, Turn};
+use res_sessions::Listeners;
+use std::alloc::Global;
+use std::marker::Model;
+
+/// A topic: the sessions that subscribe, which contracts see as their list in ascending order.
+#[derive(Drop)]
+pub struct TopicBox {
+    alloc: Global,
+    subscribers: Listeners,
+}
+
+impl Model for TopicBox {
+    ghost use Rattle.std.specs.Prelude.{ℕ, List as Items};
+
+    ghost Value = { Items ℕ };
+
+    ghost view = { λ a. a.subscribers };
+}
+
+impl TopicBox {
+    /// A topic to which nobody subscribes. It takes no memory.
+    pub fn new(alloc: Global) -> Self
+        ensures { result ≡ [] }
+    {
+        TopicBox {
+            alloc,
+            subscribers: Listeners::new(alloc),
+        }
+    }
+
+    /// One operation of a session. The topic is unchanged after want of memory.
+    pub fn act(
+        &mut self,
+        name: &Name,
+        place: u64,
+        session: u64,
+        op: &TopicOp,
+    ) -> Result<Turn, NoMemory>
+        ensures ok { IfOk result (λ turn. turn ≡ (topic_act name.now session op.now self.old).turn) }
+        ensures after { OnOk result (self.new ≡ (topic_act name.now session op.now self.old).state) }
+        ensures err { OnErr result (self.new ≡ self.old) }
+    {
+        match op {
+            TopicOp::Subscribe => self.subscribe(session),
+            TopicOp::Unsubscribe => Ok(self.unsubscribe(session)),
+            TopicOp::Publish { text } => self.publish(name, text),
+        }
+    }
+
+    /// What a query is answered.
+    pub fn ask(&self, query: &TopicQuery) -> Result<Reply, NoMemory>
+        ensures { IfOk result (λ reply. reply ≡ topic_ask query.now self.now) }
+    {
+        match query {
+            TopicQuery::Subscribers => Ok(Reply::Number(self.subscribers.len() as i64)),
+        }
+    }
+
+    /// The session ended: it subscribes no more, and nobody is told. It takes no memory.
+    pub fn end(&mut self, name: &Name, place: u64, session: u64) -> Result<Turn, NoMemory>
+        ensures ok { IfOk result (λ turn. turn ≡ (replied self.old Reply.Done).turn) }
+        ensures after { OnOk result (self.new ≡ without_session self.old session) }
+        ensures err { OnErr result (self.new ≡ self.old) }
+    {
+        self.unlisten(session);
+        Ok(self.quiet(Reply::Done))
+    }
+
+    /// The session subscribes no more.
+    pub fn unlisten(&mut self, session: u64)
+        ensures { self.new ≡ without_session self.old session }
+    {
+        self.subscribers.unlisten(session);
+    }
+
+    /// A reply, and nobody told.
+    fn quiet(&self, reply: Reply) -> Turn
+        ensures { result ≡ (replied self.now reply).turn }
+    {
+        Turn {
+            reply,
+            told: List::new(self.alloc),
+        }
+    }
+
+    /// The session subscribes from now on.
+    fn subscribe(&mut self, session: u64) -> Result<Turn, NoMemory>
+        ensures ok { IfOk result (λ turn. turn ≡ (topic_act [] session TopicOp.Subscribe self.old).turn) }
+        ensures after { OnOk result (self.new ≡ (topic_act [] session TopicOp.Subscribe self.old).state) }
+        ensures err { OnErr result (self.new ≡ self.old) }
+    {
+        let reply = self.subscribers.listen(session)?;
+        Ok(self.quiet(reply))
+    }
+
+    /// The session subscribes no more, if it did.
+    fn unsubscribe(&mut self, session: u64) -> Turn
+        ensures turn { result ≡ (topic_act [] session TopicOp.Unsubscribe self.old).turn }
+        ensures after { self.new ≡ (topic_act [] session TopicOp.Unsubscribe self.old).state }
+    {
+        if !self.subscribers.contains(session) {
+            return self.quiet(Reply::No);
+        }
+        self.subscribers.unlisten(session);
+        self.quiet(Reply::Yes)
+    }
+
+    /// Tells the text to each session that subscribes.
+    fn publish(&mut self, name: &Name, text: &Text) -> Result<Turn, NoMemory>
+        ensures ok { IfOk result (λ turn. turn ≡ (topic_act name.now 0 (TopicOp.Publish text.now) self.old).turn) }
+        ensures unchanged { self.new ≡ self.old }
+    {
+        let told = self.subscribers.tell(&Event::Message {
+            name: name.copy()?,
+            text: text.copy()?,
+        })?;
+        let reply = Reply::Number(self.subscribers.len() as i64);
+        Ok(Turn { reply, told })
+    }
+}
+
+impl Duplicate for TopicBox {
+    fn copy(&self) -> Result<TopicBox, NoMemory> {
+        Ok(TopicBox {
+            alloc: self.alloc,
+            subscribers: self.subscribers.copy()?,
+        })
+    }
+}

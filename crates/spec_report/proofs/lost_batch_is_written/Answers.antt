@@ -1,8 +1,0 @@
-use Rattle.std.proofs.Common.{refl}
-use Rattle.std.specs.Fmt.{digits}
-use Rattle.spec_report.proofs.lost_batch_is_written.Goals as goal
-
--- the text is computed
-pub returns : goal.returns
-unfolding digits
-returns c = refl
