@@ -3,7 +3,9 @@
 
 mod drafts;
 mod lines;
+mod scripts;
 mod steps;
 mod texts;
 
+pub use scripts::{ScriptRefused, read_script};
 pub use texts::step_text;

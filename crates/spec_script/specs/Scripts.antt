@@ -188,16 +188,16 @@ abbrev pub or_refused : {A : Type 0} → Why → Option A → Result A Why
 or_refused reason None = Err reason
 or_refused reason (Some x) = Ok x
 
+abbrev pub after_cluster : Place → List ℕ → Option Draft → Result (Option Draft) Why
+after_cluster p l None = Err why.Cluster
+after_cluster p l (Some d) = unless_refused (in_limits p.is_past l) (Ok (Some (at_line p.number d)))
+
 -- after a line where the cluster line is due
 abbrev pub after_first : Place → List ℕ → Result (Option Draft) Why
 after_first p l =
     if is_skipped l then
     (if p.is_last then Err why.Cluster else unless_refused (in_limits p.is_past l) (Ok None))
-    else cluster_read p l (cluster_of (words_of l))
-  where
-    cluster_read : Place → List ℕ → Option Draft → Result (Option Draft) Why
-    cluster_read p l None = Err why.Cluster
-    cluster_read p l (Some d) = unless_refused (in_limits p.is_past l) (Ok (Some (at_line p.number d)))
+    else after_cluster p l (cluster_of (words_of l))
 
 -- after a later line
 abbrev pub after_later : Place → List ℕ → Draft → Result (Option Draft) Why
