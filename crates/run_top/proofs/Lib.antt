@@ -1,2 +1,3 @@
+pub mod FaithfulLemmas
 pub mod LongLemmas
 pub mod ReportLemmas

@@ -1,13 +1,12 @@
 -- What the program answers: to its words, to its input, and what it writes.
-use Rattle.std.specs.Prelude.{ℕ, ◌+◌, ◌-◌, ◌==◌, ◌&&◌, ◌≡◌, ◌⊎◌, Bool, true, false, nat_eq, if◌then◌else◌, List, [], ◌∷◌, ◌++◌, length, Option, Some, None, Result, Ok, Err}
-use Rattle.std.specs.List.{slice_split}
+use Rattle.std.specs.Prelude.{ℕ, ◌+◌, ◌-◌, ◌==◌, ◌&&◌, Bool, true, false, ◌||◌, nat_eq, if◌then◌else◌, List, [], ◌∷◌, count_by, Option, Some, None, Result, Ok, Err}
 use Rattle.ax_types.specs.declared.scripts.Command.{Command}
 use Rattle.ax_types.specs.declared.scripts.Command.TheVariants as command
 use Rattle.ax_types.specs.declared.scripts.Script.{Script}
 use Rattle.ax_types.specs.declared.scripts.RunEnd.TheVariants as run_end
 use Rattle.ax_types.specs.declared.statuses.Why.{Why}
 use Rattle.ax_types.specs.declared.statuses.Why.TheVariants as why
-use Rattle.spec_script.specs.Scripts.{Refusal, is_skipped, read_script_of}
+use Rattle.spec_script.specs.Scripts.{Refusal, read_script_of}
 use Rattle.spec_words.specs.CommandLine.{command_of_words}
 use Rattle.spec_single.specs.Form.{Call, Lines, Calls, NotOfForm, EndsEarly, form_of}
 use Rattle.spec_single.specs.Run.{run_items, run_history}
@@ -25,24 +24,32 @@ is_accepted words = is_run (command_of_words words)
 abbrev pub not_built : ℕ → Refusal
 not_built n = record { line = n; why = why.NotBuilt }
 
--- the lines of some bytes
-abbrev pub lines : List ℕ → List (List ℕ)
-lines bytes = slice_split (λ b. b == 10) bytes
+-- how many lines some bytes have: the last needs no newline
+abbrev pub line_count : List ℕ → ℕ
+line_count bytes = count_by (λ b. b == 10) bytes + 1
 
--- the number of the first line with words, where the first of these lines has this number
-abbrev pub first_words : ℕ → List (List ℕ) → ℕ
-first_words n [] = n
-first_words n (l ∷ ls) = if is_skipped l then first_words (n + 1) ls else n
+-- the number of the first line that is neither empty nor a comment. The bytes begin with the line of this number, or in its comment.
+abbrev pub first_words : ℕ → Bool → List ℕ → ℕ
+first_words number in_comment [] = number
+first_words number in_comment (b ∷ bs) =
+    if b == 10 then first_words (number + 1) false bs
+    else if in_comment || b == 35 then first_words number true bs
+    else number
 
 -- the number of the cluster line
 abbrev pub cluster_line : List ℕ → ℕ
-cluster_line bytes = first_words 1 (lines bytes)
+cluster_line bytes = first_words 1 false bytes
+
+-- the first lines, each with its newline
+abbrev pub first_lines : ℕ → List ℕ → List ℕ
+first_lines count [] = []
+first_lines count (b ∷ bs) = if count == 0 then [] else b ∷ first_lines (if b == 10 then count - 1 else count) bs
 
 -- a script that was read whole: its calls, or the line that is not of the narrow form
 abbrev pub calls_or_refusal : List ℕ → Lines → Result (List Call) Refusal
 calls_or_refusal bytes (Calls cs) = Ok cs
 calls_or_refusal bytes (NotOfForm n) = Err (not_built n)
-calls_or_refusal bytes EndsEarly = Err (not_built (length (lines bytes)))
+calls_or_refusal bytes EndsEarly = Err (not_built (line_count bytes))
 
 -- whether the cluster has one node and one client
 abbrev pub is_single : Script → Bool
@@ -62,14 +69,9 @@ abbrev pub refused_after : List ℕ → Refusal → Result Script Refusal → Re
 refused_after bytes r (Err earlier) = r
 refused_after bytes r (Ok s) = if is_single s then earlier_or r (form_of s.lines) else not_built (cluster_line bytes)
 
--- the bytes before a line: so many lines with their newlines
-abbrev pub bytes_before : ℕ → List (List ℕ) → List ℕ
-bytes_before k [] = []
-bytes_before k (l ∷ ls) = if nat_eq k 0 then [] else l ++ (10 ∷ bytes_before (k - 1) ls)
-
 -- the first line that is refused, of a script whose first line outside the grammar or the limits is this
 abbrev pub refused : List ℕ → Refusal → Refusal
-refused bytes r = refused_after bytes r (read_script_of false (bytes_before (r.line - 1) (lines bytes)))
+refused bytes r = refused_after bytes r (read_script_of false (first_lines (r.line - 1) bytes))
 
 -- the calls of the narrow script that the bytes are, or the first line that is refused and why
 abbrev pub judged_as : List ℕ → Result Script Refusal → Result (List Call) Refusal

@@ -1,4 +1,7 @@
 pub mod Answers
 pub mod Forms
+pub mod Judging
 pub mod Longs
+pub mod Outcomes
 pub mod Runs
+pub mod Statuses

@@ -1,0 +1,29 @@
+-- What the reader of the input answers, as the definitions say it.
+use Rattle.std.specs.Prelude.{◌≡◌, ⊤, ℕ, List, map, Result, Ok, Err}
+use Rattle.std.specs.Global.{Vec}
+use Rattle.ax_types.specs.declared.statuses.Why.{Why}
+use Rattle.spec_script.specs.Scripts.{Refusal}
+use Rattle.spec_single.specs.Form.{Call}
+use Rattle.run_top.specs.Runs.{call_of}
+use Rattle.run_top.specs.declared.run.LongCall.{LongCall}
+use Rattle.run_top.specs.declared.refusals.Refused.{Refused}
+use Rattle.run_top.specs.declared.refusals.Refused.TheVariants.{Usage, Script, ReadFault, NoMemory}
+
+-- the refusal of a line
+abbrev pub at_line : ℕ → Why → Refusal
+at_line line why = record { line = line; why = why }
+
+-- the refusal is this one; want of memory says nothing
+abbrev pub Refuses : Refusal → Refused → Type 0
+Refuses meant (Script line why) = meant ≡ at_line line why
+Refuses meant NoMemory = ⊤
+Refuses meant Usage = ⊥
+Refuses meant ReadFault = ⊥
+
+-- these are the calls, or the refusal is this one; want of memory says nothing
+abbrev pub Judges : Result (List Call) Refusal → Result (Vec LongCall) Refused → Type 0
+Judges meant (Ok calls) = meant ≡ Ok (map call_of calls.items)
+Judges meant (Err (Script line why)) = meant ≡ Err (at_line line why)
+Judges meant (Err NoMemory) = ⊤
+Judges meant (Err Usage) = ⊥
+Judges meant (Err ReadFault) = ⊥

@@ -1,0 +1,65 @@
+-- What the program's answer says.
+use Rattle.std.specs.Prelude.{◌≡◌, ◌⊎◌, ⊤, ℕ, Bool, true, false, List, Result, Ok, Err, IsOkAnd}
+use Rattle.ax_types.specs.declared.statuses.Status.{Status}
+use Rattle.ax_types.specs.declared.statuses.Status.TheVariants as status
+use Rattle.ax_io.specs.Content.{first_bytes}
+use Rattle.spec_claims.specs.Faithful.{IsFaithful}
+use Rattle.spec_script.specs.Scripts.{Refusal}
+use Rattle.spec_single.specs.Form.{Call}
+use Rattle.spec_single.specs.Run.{run_shown, run_history}
+use Rattle.run_top.specs.Answers.{run_report}
+use Rattle.run_top.specs.Judging.{at_line}
+use Rattle.command_words.specs.declared.words.WordsRefused.{WordsRefused}
+use Rattle.command_words.specs.declared.words.WordsRefused.TheVariants as words_refused
+use Rattle.run_top.specs.declared.refusals.Refused.{Refused}
+use Rattle.run_top.specs.declared.refusals.Refused.TheVariants as refused
+
+-- ---- what is answered before anything is written
+
+-- the words are refused exactly where they are not accepted; want of memory says nothing
+abbrev pub Takes : Bool → Result (Unit {0}) WordsRefused → Type 0
+Takes accepted (Ok done) = accepted ≡ true
+Takes accepted (Err words_refused.Usage) = accepted ≡ false
+Takes accepted (Err words_refused.NoMemory) = ⊤
+
+-- the same, of an answer that may be another refusal
+abbrev pub Accepts : {A : Type 0} → Bool → Result A Refused → Type 0
+Accepts accepted (Err refused.Usage) = accepted ≡ false
+Accepts accepted (Err refused.NoMemory) = ⊤
+Accepts accepted _ = accepted ≡ true
+
+-- the bytes of the text are the report of these calls, or the refusal is this one
+abbrev pub Reports : {Text : Type 0} → (Text → List ℕ) → Result (List Call) Refusal → Result Text Refused → Type 0
+Reports bytes meant (Ok text) = IsOkAnd meant (λ cs. bytes text ≡ run_report cs)
+Reports bytes meant (Err (refused.Script line why)) = meant ≡ Err (at_line line why)
+Reports bytes meant (Err _) = ⊤
+
+-- ---- what a run of the program answers
+
+-- the bytes of an input that are read, at most: one more than those of the longest script
+abbrev pub input_bytes : List ℕ → List ℕ
+input_bytes content = first_bytes 1048577 content
+
+-- the answer is Usage exactly where the words are not accepted; want of memory says nothing
+abbrev pub TellsUsage : Bool → Status → Type 0
+TellsUsage accepted status.Usage = accepted ≡ false
+TellsUsage accepted status.NoMemory = ⊤
+TellsUsage accepted _ = accepted ≡ true
+
+-- a refused line is the first one, with its reason
+abbrev pub TellsRefusal : Result (List Call) Refusal → Status → Type 0
+TellsRefusal meant (status.Script line why) = meant ≡ Err (at_line line why)
+TellsRefusal meant _ = ⊤
+
+-- the answer to a script
+abbrev pub answer_of : Result (List Call) Refusal → Status
+answer_of (Ok cs) = status.Done
+answer_of (Err r) = status.Script r.line r.why
+
+-- the answer is the one to the script, or there was want of memory
+abbrev pub Answers : Result (List Call) Refusal → Status → Type 0
+Answers meant s = (s ≡ answer_of meant) ⊎ (s ≡ status.NoMemory)
+
+-- the run of these calls is faithful to its history, at any session timeout
+abbrev pub RunsFaithfully : List Call → Type 0
+RunsFaithfully cs = (timeout : ℕ) → IsFaithful timeout (run_shown cs) (run_history cs)

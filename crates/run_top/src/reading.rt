@@ -1,0 +1,64 @@
+ghost use Rattle.std.specs.Prelude.{◌≡◌, ◌≤◌, map, string_bytes, IsErrOf, IfSome};
+ghost use Rattle.ax_io.specs.Count.{Rose};
+ghost use Rattle.run_top.specs.Answers.{is_accepted, judged};
+ghost use Rattle.run_top.specs.Outcomes.{Accepts, Takes, Reports, input_bytes};
+
+use crate::judge::judge;
+use crate::refusals::Refused;
+use crate::report::report_of_calls;
+use ax_io::{Source, read_up_to};
+use ax_types::{ClientId, Command, NodeId};
+use command_words::{WordsRefused, command_of};
+use std::alloc::Global;
+
+/// The most bytes of an input that are read: one more than those of the longest script.
+const MOST_BYTES: usize = 1_048_577;
+
+/// Accepts the words `run`, and no others yet.
+fn accept(alloc: Global, words: &[String]) -> Result<(), WordsRefused>
+    ensures { Takes (is_accepted (map string_bytes words.now)) result }
+{
+    match command_of(alloc, words)? {
+        Command::Run { json: false } => Ok(()),
+        _ => Err(WordsRefused::Usage),
+    }
+}
+
+/// The one node of a narrow script.
+fn only_node() -> NodeId
+    ensures { result ≡ 1 }
+{
+    match NodeId::new(1) {
+        Some(node) => node,
+        None => unreachable!(),
+    }
+}
+
+/// The one client of a narrow script.
+fn only_client() -> ClientId
+    ensures { result ≡ 1 }
+{
+    match ClientId::new(1) {
+        Some(client) => client,
+        None => unreachable!(),
+    }
+}
+
+/// The report that the words and the input ask for.
+pub fn report<I: Source>(
+    alloc: Global,
+    words: &[String],
+    input: &mut I,
+) -> Result<String, Refused>
+    ensures usage { Accepts (is_accepted (map string_bytes words.now)) result }
+    ensures unread { IsErrOf result Refused.Usage → input.new ≡ input.old }
+    ensures count { I.faults input.old ≤ I.faults input.new }
+    ensures read_fault { IsErrOf result Refused.ReadFault → Rose (I.faults input.old) (I.faults input.new) }
+    ensures reports { IfSome (I.content input.old) (λ content. Reports string_bytes (judged (input_bytes content)) result) }
+{
+    accept(alloc, words)?;
+    let bytes = read_up_to(alloc, input, MOST_BYTES)?;
+    let calls = judge(alloc, bytes.as_slice())?;
+    let report = report_of_calls(alloc, only_node(), only_client(), calls.as_slice())?;
+    Ok(report)
+}
