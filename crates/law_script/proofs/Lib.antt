@@ -4,3 +4,4 @@ pub mod Parts
 pub mod Operations
 pub mod Queries
 pub mod Steps
+pub mod Digits
