@@ -84,4 +84,4 @@ pub input_faithful : (P : List Call → Type 0) (content : Option (List ℕ))
 input_faithful P None h = tt
 input_faithful P (Some bytes) h =
     on_ok P RunsFaithfully (judged (input_bytes bytes)) h
-        (script_faithful (input_bytes bytes) (read_script_of false (input_bytes bytes)))
+    (script_faithful (input_bytes bytes) (read_script_of false (input_bytes bytes)))

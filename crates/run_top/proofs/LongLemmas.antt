@@ -21,21 +21,21 @@ longs_found : (es : List (List ℕ × ℤ)) (k : List ℕ) → found (longs_book
 longs_found [] k = refl
 longs_found (e ∷ es) k = picked (is_eq (bytes_cmp k e.0)) (longs_found es k)
   where
-  picked : (b : Bool) → found (longs_book es) k ≡ option_map ALong (found es k)
-      → cond b (Some (ALong e.1)) (found (longs_book es) k) ≡ option_map ALong (cond b (Some e.1) (found es k))
-  picked true h = refl
-  picked false h = h
+    picked : (b : Bool) → found (longs_book es) k ≡ option_map ALong (found es k)
+        → cond b (Some (ALong e.1)) (found (longs_book es) k) ≡ option_map ALong (cond b (Some e.1) (found es k))
+    picked true h = refl
+    picked false h = h
 
 longs_with : (es : List (List ℕ × ℤ)) (k : List ℕ) (x : ℤ) → with_entry (longs_book es) k (ALong x) ≡ longs_book (with_entry es k x)
 longs_with [] k x = refl
 longs_with (e ∷ es) k x = placed (bytes_cmp k e.0) (longs_with es k x)
   where
-  placed : (o : Ordering) → with_entry (longs_book es) k (ALong x) ≡ longs_book (with_entry es k x)
-      → match_ordering o ((k, ALong x) ∷ (e.0, ALong e.1) ∷ longs_book es) ((e.0, ALong x) ∷ longs_book es) ((e.0, ALong e.1) ∷ with_entry (longs_book es) k (ALong x))
-      ≡ longs_book (match_ordering o ((k, x) ∷ e ∷ es) ((e.0, x) ∷ es) (e ∷ with_entry es k x))
-  placed Less h = refl
-  placed Equal h = refl
-  placed Greater h = ap (λ (b : Book). (e.0, ALong e.1) ∷ b) h
+    placed : (o : Ordering) → with_entry (longs_book es) k (ALong x) ≡ longs_book (with_entry es k x)
+        → match_ordering o ((k, ALong x) ∷ (e.0, ALong e.1) ∷ longs_book es) ((e.0, ALong x) ∷ longs_book es) ((e.0, ALong e.1) ∷ with_entry (longs_book es) k (ALong x))
+        ≡ longs_book (match_ordering o ((k, x) ∷ e ∷ es) ((e.0, x) ∷ es) (e ∷ with_entry es k x))
+    placed Less h = refl
+    placed Equal h = refl
+    placed Greater h = ap (λ (b : Book). (e.0, ALong e.1) ∷ b) h
 
 longs_length : (es : List (List ℕ × ℤ)) → length (longs_book es) ≡ length es
 longs_length [] = refl

@@ -33,9 +33,9 @@ none_outside : (front calls : List (ℕ × ℕ)) → filter_of (λ a. not (list_
 none_outside front [] = refl
 none_outside front (a ∷ calls) =
     ap (λ b. cond (not b) (a ∷ filter_of (λ x. not (list_any (is_call x) (front ++ a ∷ calls))) calls)
-        (filter_of (λ x. not (list_any (is_call x) (front ++ a ∷ calls))) calls)) (is_there front a calls)
+    (filter_of (λ x. not (list_any (is_call x) (front ++ a ∷ calls))) calls)) (is_there front a calls)
     ∙ subst (λ (all : List (ℕ × ℕ)). filter_of (λ x. not (list_any (is_call x) all)) calls ≡ []) (append_assoc front (a ∷ []) calls)
-        (none_outside (front ++ a ∷ []) calls)
+    (none_outside (front ++ a ∷ []) calls)
 
 -- the calls of a run are those that have an outcome
 calls_answered : (i : ℕ) (book : Book) (cs : List Call)
@@ -47,7 +47,7 @@ calls_answered i book (c ∷ cs) = ap (λ (calls : List (ℕ × ℕ)). (2, i) �
 pub no_call_waits : (cs : List Call) → waiting_of (run_items cs) ≡ []
 no_call_waits cs =
     subst (λ (calls : List (ℕ × ℕ)). filter_of (λ a. not (list_any (is_call a) (filter_map outcome_of (run_items cs)))) calls ≡ [])
-        (sym (calls_answered 1 [] cs)) (none_outside [] (filter_map outcome_of (run_items cs)))
+    (sym (calls_answered 1 [] cs)) (none_outside [] (filter_map outcome_of (run_items cs)))
 
 -- a text of the items and the history of a run is its report
 pub reported : {A E : Type 0} (bytes : A → List ℕ) (r : Result A E) (items : List Item) (history : History) (cs : List Call)
@@ -59,4 +59,4 @@ reported bytes (Ok t) items history cs items_are history_is h =
     h ∙ ap (λ (shown : List Item). head_text ++ (items_text shown ++ (history_text history ++ end_text run_end.Done))) items_are
     ∙ ap (λ (acts : History). head_text ++ (items_text (run_items cs) ++ (history_text acts ++ end_text run_end.Done))) history_is
     ∙ ap (λ (waiting : List (ℕ × ℕ)). head_text ++ (items_text (run_items cs)
-        ++ (history_text (run_history cs) ++ (waiting_text waiting ++ end_text run_end.Done)))) (sym (no_call_waits cs))
+    ++ (history_text (run_history cs) ++ (waiting_text waiting ++ end_text run_end.Done)))) (sym (no_call_waits cs))

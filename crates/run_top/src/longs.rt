@@ -90,6 +90,13 @@ impl Longs {
         ensures after { OnOk result (self.new ≡ (acted self.old place 0 (act.Do session name.now (op.Long operation.now))).state) }
         ensures err { OnErr result (self.new ≡ self.old) }
     {
-        act_at(self.alloc, &mut self.numbers, place, session, name, operation)
+        act_at(
+            self.alloc,
+            &mut self.numbers,
+            place,
+            session,
+            name,
+            operation,
+        )
     }
 }

@@ -45,11 +45,7 @@ fn only_client() -> ClientId
 }
 
 /// The report that the words and the input ask for.
-pub fn report<I: Source>(
-    alloc: Global,
-    words: &[String],
-    input: &mut I,
-) -> Result<String, Refused>
+pub fn report<I: Source>(alloc: Global, words: &[String], input: &mut I) -> Result<String, Refused>
     ensures usage { Accepts (is_accepted (map string_bytes words.now)) result }
     ensures unread { IsErrOf result Refused.Usage → input.new ≡ input.old }
     ensures count { I.faults input.old ≤ I.faults input.new }

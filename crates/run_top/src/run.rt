@@ -4,7 +4,9 @@ ghost use Rattle.spec_single.specs.Run.{start_shown, call_act, run_items, run_hi
 ghost use Rattle.run_top.specs.Runs.{call_of, call_items};
 
 use crate::longs::Longs;
-use ax_types::{Act, ClientId, Duplicate, Item, LongOp, Name, NoMemory, NodeId, Op, Reply, WindowCall};
+use ax_types::{
+    Act, ClientId, Duplicate, Item, LongOp, Name, NoMemory, NodeId, Op, Reply, WindowCall,
+};
 use std::alloc::Global;
 
 /// A call of the narrow form: an operation on the long of a name.
@@ -25,7 +27,12 @@ pub struct Shown {
 const SESSION: u64 = 2;
 
 /// Shows that the i-th call is made, committed and replied to.
-fn show_call(items: &mut Vec<Item>, call: &LongCall, number: u64, reply: Reply) -> Result<(), NoMemory>
+fn show_call(
+    items: &mut Vec<Item>,
+    call: &LongCall,
+    number: u64,
+    reply: Reply,
+) -> Result<(), NoMemory>
     requires { number ≤ 1000 }
     ensures { OnOk result (items.new.items ≡ items.old.items ++ call_items number (call_of call.now) reply) }
 {
@@ -74,14 +81,22 @@ fn show_start(alloc: Global, node: NodeId, client: ClientId) -> Result<Shown, No
         Item::Leader { node, term: 1 },
         Item::Commit { place: 1 },
         Item::Commit { place: 2 },
-        Item::Opened { session: SESSION, client }
+        Item::Opened {
+            session: SESSION,
+            client
+        },
     ]?;
     let history = vec![in alloc; (0, Act::Nothing), (0, Act::Open { client, opening: 1 })]?;
     Ok(Shown { items, history })
 }
 
 /// Runs the calls, one after another, on one node that leads.
-pub fn run(alloc: Global, node: NodeId, client: ClientId, calls: &[LongCall]) -> Result<Shown, NoMemory>
+pub fn run(
+    alloc: Global,
+    node: NodeId,
+    client: ClientId,
+    calls: &[LongCall],
+) -> Result<Shown, NoMemory>
     requires one_node { node ≡ 1 }
     requires one_client { client ≡ 1 }
     requires few { length calls.now ≤ 1000 }

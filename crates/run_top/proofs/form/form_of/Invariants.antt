@@ -8,5 +8,5 @@ use Rattle.run_top.proofs.form.form_of.Given as goal
 abbrev pub invariant-lines : goal.invariant-lines
 invariant-lines l = record {
   form_is : spec.form_of l.lines ≡ with_calls (map call_of l.calls.items) (spec.lines_from (due_of l.due) (vec_len l.calls) (drop l.entry-index l.lines));
-  few : vec_len l.calls ≤ 1000
+  few : vec_len l.calls ≤ 1000;
 }

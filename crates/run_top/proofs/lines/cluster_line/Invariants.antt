@@ -6,5 +6,5 @@ use Rattle.run_top.proofs.lines.cluster_line.Given as goal
 abbrev pub invariant-bytes : goal.invariant-bytes
 invariant-bytes l = record {
   line_is : spec.cluster_line l.bytes ≡ spec.first_words l.number l.in_comment (drop l.byte-index l.bytes);
-  number_fits : l.number ≤ l.byte-index + 1
+  number_fits : l.number ≤ l.byte-index + 1;
 }

@@ -14,4 +14,4 @@ whole all front rest left e none = sym (rw (none, no_lines rest, append-nil fron
 pub returns-then-left-eq0 : goal.returns-then-left-eq0
 returns-then-left-eq0 c =
     whole (spec.first_lines c.args.count c.args.bytes.now) (take c.bytes.place c.args.bytes.now) (drop c.bytes.place c.args.bytes.now)
-        c.bytes.left c.bytes.invariant c.if-left-eq0.true
+    c.bytes.left c.bytes.invariant c.if-left-eq0.true

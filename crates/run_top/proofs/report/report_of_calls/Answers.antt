@@ -7,4 +7,4 @@ use Rattle.run_top.proofs.report.report_of_calls.Goals as goal
 pub returns : goal.returns
 returns c =
     reported string_bytes c.text_of.result c.in_ok-run.field-0.items.items c.in_ok-run.field-0.history.items
-        (map call_of c.args.calls.now) c.in_ok-run.ensures.items c.in_ok-run.ensures.history c.text_of.ensures
+    (map call_of c.args.calls.now) c.in_ok-run.ensures.items c.in_ok-run.ensures.history c.text_of.ensures

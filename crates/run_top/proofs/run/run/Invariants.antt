@@ -11,5 +11,5 @@ invariant-calls l = record {
   items_are : l.shown.items.items ++ transcript (calls_shown l.number l.longs (map call_of (drop l.call-index l.calls)))
       ≡ run_items (map call_of l.calls);
   history_is : l.shown.history.items ++ map (λ c. (0, call_act c)) (map call_of (drop l.call-index l.calls))
-      ≡ run_history (map call_of l.calls)
+      ≡ run_history (map call_of l.calls);
 }
