@@ -40,6 +40,16 @@ Reports bytes meant (Err _) = ⊤
 abbrev pub input_bytes : List ℕ → List ℕ
 input_bytes content = first_bytes 1048577 content
 
+-- the answers of a run: those of stores, threads and other commands never come
+abbrev pub IsOfRun : Status → Type 0
+IsOfRun status.Done = ⊤
+IsOfRun status.Usage = ⊤
+IsOfRun (status.Script line why) = ⊤
+IsOfRun status.ReadFault = ⊤
+IsOfRun status.WriteFault = ⊤
+IsOfRun status.NoMemory = ⊤
+IsOfRun _ = ⊥
+
 -- the answer is Usage exactly where the words are not accepted; want of memory says nothing
 abbrev pub TellsUsage : Bool → Status → Type 0
 TellsUsage accepted status.Usage = accepted ≡ false
