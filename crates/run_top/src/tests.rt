@@ -4,9 +4,11 @@ use ax_types::{List, Status, Why};
 use std::alloc::{AllocError, Global};
 use std::test::Fail;
 
-const ONE_ADD: &[u8] = b"cluster 1 clients 1 timeout 1000\nelect 1\nopen 1 1\nflush\ncall 1 long c add 5\nflush\n";
+const ONE_ADD: &[u8] =
+    b"cluster 1 clients 1 timeout 1000\nelect 1\nopen 1 1\nflush\ncall 1 long c add 5\nflush\n";
 
-const ONE_ADD_REPORT: &[u8] = b"report 1\nleader 1 1\ncommit 1\ncommit 2\nopened 2 1\ncalled 2 1 call long c add 5\ncommit 3\nreply 2 1 3 number 5\nhistory 3\n1 0 nothing\n2 0 open 1 1\n3 0 do 2 long c add 5\nend done\n";
+const ONE_ADD_REPORT: &[u8] =
+    b"report 1\nleader 1 1\ncommit 1\ncommit 2\nopened 2 1\ncalled 2 1 call long c add 5\ncommit 3\nreply 2 1 3 number 5\nhistory 3\n1 0 nothing\n2 0 open 1 1\n3 0 do 2 long c add 5\nend done\n";
 
 /// What a run of these words over this input gives, where the reads and the puts with these numbers fail and nothing is kept.
 fn outcome(
@@ -26,7 +28,13 @@ fn outcome(
 fn one_add_is_reported(rt: HostRuntime) -> Result<(), Fail> {
     let alloc = rt.alloc();
     let words = vec![in alloc; String::from_str(alloc, "run")?]?;
-    let (status, sink) = outcome(alloc, words.as_slice(), ONE_ADD, List::new(alloc), List::new(alloc))?;
+    let (status, sink) = outcome(
+        alloc,
+        words.as_slice(),
+        ONE_ADD,
+        List::new(alloc),
+        List::new(alloc),
+    )?;
     assert_eq!(rt; status, Status::Done);
     assert_eq!(rt; sink.taken().as_slice(), ONE_ADD_REPORT);
     Ok(())
@@ -35,14 +43,35 @@ fn one_add_is_reported(rt: HostRuntime) -> Result<(), Fail> {
 #[test]
 fn nothing_is_written_of_what_is_refused(rt: HostRuntime) -> Result<(), Fail> {
     let alloc = rt.alloc();
-    let words = vec![in alloc; String::from_str(alloc, "run")?, String::from_str(alloc, "x")?]?;
-    let (status, sink) = outcome(alloc, words.as_slice(), ONE_ADD, List::new(alloc), List::new(alloc))?;
+    let words = vec![in alloc;
+        String::from_str(alloc, "run")?,
+        String::from_str(alloc, "x")?,
+    ]?;
+    let (status, sink) = outcome(
+        alloc,
+        words.as_slice(),
+        ONE_ADD,
+        List::new(alloc),
+        List::new(alloc),
+    )?;
     assert_eq!(rt; status, Status::Usage);
     assert!(rt; sink.taken().is_empty());
 
     let words = vec![in alloc; String::from_str(alloc, "run")?]?;
-    let (status, sink) = outcome(alloc, words.as_slice(), b"", List::new(alloc), List::new(alloc))?;
-    assert_eq!(rt; status, Status::Script { line: 1, why: Why::Cluster });
+    let (status, sink) = outcome(
+        alloc,
+        words.as_slice(),
+        b"",
+        List::new(alloc),
+        List::new(alloc),
+    )?;
+    assert_eq!(rt;
+        status,
+        Status::Script {
+            line: 1,
+            why: Why::Cluster
+        }
+    );
     assert!(rt; sink.taken().is_empty());
     Ok(())
 }
