@@ -8,8 +8,6 @@ mod multimap;
 mod pairs;
 mod queue;
 mod set;
-#[cfg(test)]
-mod tests;
 mod topic;
 
 use ax_types::Reply;

@@ -5,7 +5,5 @@ mod deadlines;
 mod entries;
 mod items;
 mod map;
-#[cfg(test)]
-mod tests;
 
 pub use map::{MAX_ENTRIES, MapBox};
