@@ -1,0 +1,6 @@
+//! The book: every resource by its name, and what each act of a history makes of it.
+#![tactic(auto)]
+
+mod book;
+
+pub use crate::book::Book;
