@@ -1,3 +1,6 @@
 pub mod Indexes
+pub mod Kept
+pub mod Seen
+pub mod Single
 pub mod State
 pub mod Walk

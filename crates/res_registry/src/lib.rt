@@ -2,5 +2,6 @@
 #![tactic(auto)]
 
 mod book;
+mod slot;
 
 pub use crate::book::Book;
