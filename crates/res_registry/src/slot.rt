@@ -9,7 +9,7 @@ use res_group::GroupBox;
 use res_lock::LockBox;
 use res_map::MapBox;
 use res_value::{LongBox, ValueBox};
-use std::alloc::Global;
+use std::alloc::{AllocError, Global};
 use std::marker::Model;
 
 /// What stands at a name, by its kind.
@@ -202,6 +202,17 @@ impl Duplicate for Slot {
             alloc: self.alloc,
             state,
         })
+    }
+}
+
+impl Clone for Slot {
+    ghost is_clone = { λ s t. t ≡ s };
+
+    fn clone(&self) -> Result<Slot, AllocError> {
+        match self.copy() {
+            Ok(other) => Ok(other),
+            Err(NoMemory) => Err(AllocError),
+        }
     }
 }
 
