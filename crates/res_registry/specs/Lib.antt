@@ -1,3 +1,4 @@
 pub mod Indexes
+pub mod Single
 pub mod State
 pub mod Walk
