@@ -2,9 +2,9 @@
 use Rattle.std.specs.Prelude.{ℕ, List, [], ◌∷◌, ◌++◌, map, flat_map, Option, Some, None}
 use Rattle.ax_types.specs.declared.replies.Reply.TheVariants as reply
 use Rattle.ax_types.specs.declared.replies.Event.{Event}
-use Rattle.spec_book.specs.Dict.{found, with_entry}
+use Rattle.spec_book.specs.Dict.{found}
 use Rattle.spec_book.specs.Resources.{Resource, Acted, replied, told_too}
-use Rattle.spec_book.specs.Book.{Book, at_name, after_told, unlistened, resource_pass, resource_passed, resource_end}
+use Rattle.spec_book.specs.Book.{Book, at_name, unlistened, resource_pass, resource_passed, resource_end}
 
 -- what is done at a name's resource
 abbrev pub Visit : Type 0
