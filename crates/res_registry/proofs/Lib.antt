@@ -1,7 +1,9 @@
 pub mod Acts
+pub mod Changes
 pub mod Found
 pub mod Known
 pub mod Quiet
 pub mod Sessions
 pub mod Single
 pub mod Walks
+pub mod Written
