@@ -1,5 +1,8 @@
 pub mod Acts
+pub mod Each
+pub mod Ended
 pub mod Found
+pub mod Indexes
 pub mod Known
 pub mod Quiet
 pub mod Sessions
