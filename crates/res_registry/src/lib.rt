@@ -2,5 +2,10 @@
 #![tactic(auto)]
 
 mod book;
+mod ends;
+mod kinds;
+mod names;
+mod slot;
+mod walks;
 
 pub use crate::book::Book;
