@@ -1,6 +1,9 @@
 pub mod Acts
 pub mod Changes
+pub mod Each
+pub mod Ended
 pub mod Found
+pub mod Indexes
 pub mod Known
 pub mod Quiet
 pub mod Sessions

@@ -5,6 +5,7 @@ mod book;
 mod ends;
 mod kinds;
 mod names;
+mod shelf;
 mod slot;
 mod visits;
 

@@ -25,7 +25,8 @@ fn unlisten_at(slots: &mut BTreeMap<Name, Slot>, name: &Name, session: u64)
 
 /// The session that ended listens no more at the names.
 pub fn unlisten_all(slots: &mut BTreeMap<Name, Slot>, names: &Names, session: u64)
-    ensures { slots.new.entries ≡ walked_state (unlisten_visit session) names.now slots.old.entries }
+    ensures after { slots.new.entries ≡ walked_state (unlisten_visit session) names.now slots.old.entries }
+    ensures ascending { IsStrictlySortedBy bytes_cmp names.now }
 {
     for name in names.iter() {
         unlisten_at(slots, name, session);
@@ -92,6 +93,27 @@ fn pass_at(
     }
 }
 
+/// The lives at the names that have ended at a log time go. Answers what is told of it.
+fn pass_all(
+    slots: &mut BTreeMap<Name, Slot>,
+    ends: &mut Ends,
+    alloc: Global,
+    names: &Names,
+    time: u64,
+) -> Result<Vec<(u64, Event)>, NoMemory>
+    ensures told { IfOk result (λ told. told.items ≡ walked_told (pass_visit time) names.now slots.old.entries) }
+    ensures after { OnOk result (slots.new.entries ≡ walked_state (pass_visit time) names.now slots.old.entries) }
+    ensures ends { OnOk result (HasEnds slots.old.entries ends.old → HasEnds slots.new.entries ends.new) }
+    ensures ascending { IsStrictlySortedBy bytes_cmp names.now }
+{
+    let mut told = Vec::new(alloc);
+    for name in names.iter() {
+        let more = pass_at(slots, ends, alloc, name, time)?;
+        told.append(&mut more.into_vec())?;
+    }
+    Ok(told)
+}
+
 /// The lives that have ended at a log time go, in ascending order of name and then of key. Answers what is told of it.
 /// Where none has ended, no name is looked at.
 pub fn pass(
@@ -107,10 +129,6 @@ pub fn pass(
     ensures ends { OnOk result (HasEnds slots.new.entries ends.new) }
 {
     let names = ends.passed(time)?;
-    let mut told = Vec::new(alloc);
-    for name in names.iter() {
-        let more = pass_at(slots, ends, alloc, name, time)?;
-        told.append(&mut more.into_vec())?;
-    }
+    let told = pass_all(slots, ends, alloc, &names, time)?;
     Ok(told)
 }

@@ -1,5 +1,8 @@
-use Rattle.res_registry.proofs.Changes.{ChangesEnd-same, ChangesEnd-other}
+use Rattle.std.proofs.Common.{sym}
+use Rattle.res_registry.proofs.Changes.{ChangesEnd-other}
 use Rattle.res_registry.proofs.ends.Ends.change.Goals as goal
 
 pub returns-in_ok-copy : goal.returns-in_ok-copy
-returns-in_ok-copy c = let h = c in ?
+returns-in_ok-copy c =
+    ChangesEnd-other c.args.self.now c.add.new.self c.forget.new.self c.args.name.now c.args.before c.args.after ? c.in_ok-add.ensures
+    (rw (← c.in_ok-copy.ensures) c.forget.ensures)
