@@ -1,4 +1,5 @@
 pub mod Acts
+pub mod Changes
 pub mod Each
 pub mod Ended
 pub mod Found
@@ -9,3 +10,4 @@ pub mod Quiet
 pub mod Sessions
 pub mod Single
 pub mod Walks
+pub mod Written

@@ -6,6 +6,6 @@ mod ends;
 mod kinds;
 mod names;
 mod slot;
-mod walks;
+mod visits;
 
 pub use crate::book::Book;
