@@ -10,6 +10,7 @@ use Rattle.spec_book.specs.Resources.{Resource, new_resource, Acted, replied}
 use Rattle.spec_book.specs.Book.{Book, op_kind, resource_act, at_name, turn_at, turn, all_unlistened, pass, left}
 use Rattle.res_registry.specs.Indexes.{next_end, knows, registers, has_end, HasEnds, session_names, HasNames}
 use Rattle.res_registry.specs.Single.{IsSingle, AreSingle}
+use Rattle.res_registry.specs.Steps.{ChangesEnd}
 use Rattle.res_registry.specs.Walk.{Visit, walked_state, whole_state, unlisten_visit, pass_visit, leave_visit}
 use Rattle.res_registry.proofs.Found.{same_name_swapped}
 use Rattle.res_registry.proofs.Sessions.{either}
@@ -43,11 +44,11 @@ from_each_name book index each = λ k r s there is. each k r there s is
 
 -- ---- after a resource was put at a name
 -- the index has what the resource needs, and what it had of other names
-pub HasEnds-with : (book : Book) (ends now : List (ℕ × List ℕ)) (name : List ℕ) (after : Resource) → HasEnds book ends
+HasEnds-put : (book : Book) (ends now : List (ℕ × List ℕ)) (name : List ℕ) (after : Resource) → HasEnds book ends
     → ((time : ℕ) (k : List ℕ) → is_at (bytes_cmp name) k ≡ false → has_end ends time k ≡ true → has_end now time k ≡ true)
     → ((time : ℕ) → next_end after ≡ Some time → has_end now time name ≡ true)
     → HasEnds (with_entry book name after) now
-HasEnds-with book ends now name after has others here =
+HasEnds-put book ends now name after has others here =
     from_each_end (with_entry book name after) now (Each-with (NeedsEnd now) book name after
     (λ k r there apart time is. others time k (same_name_swapped name k ∙ apart) (has k r time there is)) here)
 
@@ -61,13 +62,12 @@ pub AreSingle-with : (book : Book) (name : List ℕ) (after : Resource) → AreS
 AreSingle-with book name after single here = Each-with (λ k r. IsSingle r) book name after (λ k r there apart. single k r there) here
 
 -- the next end at a name was one that the index had, and is another that the index has
-pub HasEnds-changed : (book : Book) (ends now : List (ℕ × List ℕ)) (name : List ℕ) (before : Option ℕ) (after : Resource) → HasEnds book ends
+pub HasEnds-with : (book : Book) (ends now : List (ℕ × List ℕ)) (name : List ℕ) (after : Resource) (before : Option ℕ)
+    → ChangesEnd ends now name before (next_end after)
     → ((time : ℕ) → before ≡ Some time → has_end ends time name ≡ true)
-    → ((time : ℕ) (k : List ℕ) → is_at (bytes_cmp name) k ≡ false → has_end now time k ≡ has_end ends time k)
-    → ((time : ℕ) → next_end after ≡ Some time → (before ≡ Some time → has_end ends time name ≡ true) → has_end now time name ≡ true)
-    → HasEnds (with_entry book name after) now
-HasEnds-changed book ends now name before after has had others gives =
-    HasEnds-with book ends now name after has (λ time k apart is. others time k apart ∙ is) (λ time is. gives time is (had time))
+    → HasEnds book ends → HasEnds (with_entry book name after) now
+HasEnds-with book ends now name after before changes had has =
+    HasEnds-put book ends now name after has (λ time k apart is. changes.others time k apart ∙ is) (λ time is. changes.has time is (had time))
 
 -- ---- after a command of a session at a name
 -- the name is noted where the operation registers, and the resource needed no other than the index had

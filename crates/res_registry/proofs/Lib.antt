@@ -4,6 +4,7 @@ pub mod Each
 pub mod Ended
 pub mod Found
 pub mod Indexes
+pub mod Kept
 pub mod Known
 pub mod Quiet
 pub mod Sessions
