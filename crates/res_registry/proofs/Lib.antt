@@ -2,6 +2,7 @@ pub mod Acts
 pub mod Changes
 pub mod Each
 pub mod Ended
+pub mod Endings
 pub mod Found
 pub mod Indexes
 pub mod Kept
@@ -9,5 +10,6 @@ pub mod Known
 pub mod Quiet
 pub mod Sessions
 pub mod Single
+pub mod Turns
 pub mod Walks
 pub mod Written

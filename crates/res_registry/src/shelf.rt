@@ -120,7 +120,7 @@ impl Shelf {
         op: &Op,
     ) -> Result<Turn, NoMemory>
         requires { IsKept self.old.slots.entries self.old.ends self.old.touched }
-        ensures turn { IfOk result (λ turn. turn ≡ (turn self.old.slots.entries place time session name.now op.now).turn) }
+        ensures turn { IfOk result (λ t. t ≡ (turn self.old.slots.entries place time session name.now op.now).turn) }
         ensures after { OnOk result (self.new.slots.entries ≡ (turn self.old.slots.entries place time session name.now op.now).state) }
         ensures kept { OnOk result (IsKept self.new.slots.entries self.new.ends self.new.touched) }
     {
@@ -149,7 +149,7 @@ impl Shelf {
     ) -> Result<Turn, NoMemory>
         requires kept { IsKept self.old.slots.entries self.old.ends self.old.touched }
         requires absent { found self.old.slots.entries name.now ≡ None }
-        ensures turn { IfOk result (λ turn. turn ≡ (turn_at self.old.slots.entries place time session name.now op.now None).turn) }
+        ensures turn { IfOk result (λ t. t ≡ (turn_at self.old.slots.entries place time session name.now op.now None).turn) }
         ensures after { OnOk result (self.new.slots.entries ≡ (turn_at self.old.slots.entries place time session name.now op.now None).state) }
         ensures kept { OnOk result (IsKept self.new.slots.entries self.new.ends self.new.touched) }
     {
