@@ -12,7 +12,7 @@ use Rattle.spec_book.specs.Dict.{bytes_cmp, has_text}
 use Rattle.res_map.specs.Deadlines.{SetsDeadline, has_deadline, is_end}
 use Rattle.res_map.proofs.Index.{SetsDeadline-elsewhere, SetsDeadline-at_key}
 use Rattle.std.proofs.lemmas.Bool.{eq-eqb}
-use Rattle.res_registry.specs.Indexes.{session_names, names_of, has_end}
+use Rattle.res_registry.specs.Indexes.{session_names, names_of}
 use Rattle.res_registry.specs.Steps.{ChangesEnd}
 use Rattle.res_registry.proofs.Found.{name_at_itself, same_name}
 

@@ -1,5 +1,5 @@
 -- The steps of a session's end, walked over the names that the session touched.
-use Rattle.std.proofs.Common.{◌≡◌, ℕ, false, List, ◌++◌, refl, sym, ap, ap₂, ◌∙◌, subst}
+use Rattle.std.proofs.Common.{◌≡◌, ℕ, false, List, ◌++◌, sym, ap, ap₂, ◌∙◌, subst}
 use Rattle.std.specs.Ordering.{nat_cmp}
 use Rattle.std.specs.List.Sorted.{IsStrictlySortedBy}
 use Rattle.std.specs.BTreeMap.{is_at}
@@ -13,7 +13,7 @@ use Rattle.res_registry.specs.Walk.{walked_state, walked_told, unlisten_visit, l
 use Rattle.res_registry.proofs.Kept.{kept-ended, unlisten-whole, kept-unlistened, left-whole}
 
 module _ (session : ℕ) (book : Book) (ends : List (ℕ × List ℕ)) (index : List (ℕ × List (List ℕ))) (names : List (List ℕ))
-  (kept : IsKept book ends index) (are : names ≡ session_names index session) (ordered : IsStrictlySortedBy bytes_cmp names) where
+    (kept : IsKept book ends index) (are : names ≡ session_names index session) (ordered : IsStrictlySortedBy bytes_cmp names) where
   ordered_names : IsStrictlySortedBy bytes_cmp (session_names index session)
   ordered_names = let S : List (List ℕ) → Type 0 = λ ns. IsStrictlySortedBy bytes_cmp ns in subst S are ordered
 

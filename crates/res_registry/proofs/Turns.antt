@@ -1,5 +1,5 @@
 -- What is kept after a command at a name, and after lives ended at one.
-use Rattle.std.proofs.Common.{◌≡◌, ℕ, true, false, ◌⊎◌, inl, inr, List, Option, Some, None, refl, sym, ap, ◌∙◌, subst}
+use Rattle.std.proofs.Common.{◌≡◌, ℕ, true, ◌⊎◌, inl, inr, List, Option, Some, None, sym, ap, ◌∙◌, subst}
 use Rattle.std.specs.List.Sorted.{IsStrictlySortedBy}
 use Rattle.std.specs.BTreeMap.{is_at}
 use Rattle.std.specs.Map.{keys_of, set_value}
@@ -7,9 +7,9 @@ use Rattle.std.proofs.lemmas.Bool.{false≢true}
 use Rattle.ax_types.specs.declared.ops.Op.{Op}
 use Rattle.ax_types.specs.declared.replies.Turn.{Turn}
 use Rattle.spec_book.specs.Dict.{bytes_cmp, found, with_entry, has_text}
-use Rattle.spec_book.specs.Resources.{Resource, new_resource, Acted}
+use Rattle.spec_book.specs.Resources.{Resource, new_resource}
 use Rattle.spec_book.specs.Book.{Book, op_kind, resource_act, turn_at, turn, pass}
-use Rattle.res_registry.specs.Indexes.{next_end, knows, registers, has_end, HasEnds, session_names}
+use Rattle.res_registry.specs.Indexes.{next_end, knows, registers, HasEnds, session_names}
 use Rattle.res_registry.specs.Kept.{IsKept}
 use Rattle.res_registry.specs.Single.{IsSingle}
 use Rattle.res_registry.specs.Steps.{ChangesEnd, NotesName}

@@ -1,5 +1,5 @@
 -- A resource that is written where it stands is a visit to its name.
-use Rattle.std.proofs.Common.{◌≡◌, ℕ, ◌∙◌, refl, sym, ap, Bool, cond, List, ◌∷◌, [], Option, Some, None}
+use Rattle.std.proofs.Common.{◌≡◌, ℕ, ◌∙◌, refl, sym, ap, cond, List, ◌∷◌, [], Option, Some, None}
 use Rattle.std.specs.declared.cmp.Ordering.{Ordering}
 use Rattle.std.specs.declared.cmp.Ordering.TheVariants.{Less, Equal, Greater}
 use Rattle.std.specs.Ordering.{is_eq, match_ordering}
@@ -8,8 +8,8 @@ use Rattle.std.specs.BTreeMap.{is_at}
 use Rattle.std.specs.Map.{keys_of, set_value}
 use Rattle.std.proofs.lemmas.Map.Keys.{sorted_tail}
 use Rattle.spec_book.specs.Dict.{bytes_cmp, found, with_entry}
-use Rattle.spec_book.specs.Resources.{Resource, Acted}
-use Rattle.spec_book.specs.Book.{Book, at_name}
+use Rattle.spec_book.specs.Resources.{Resource}
+use Rattle.spec_book.specs.Book.{Book}
 use Rattle.res_registry.specs.Walk.{Visit, visited, visited_at}
 use Rattle.res_registry.proofs.Found.{none_below_head}
 

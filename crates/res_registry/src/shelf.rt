@@ -40,13 +40,7 @@ impl Shelf {
     }
 
     /// One act of a history, at its place and log time.
-    pub fn act(
-        &mut self,
-        alloc: Global,
-        place: u64,
-        time: u64,
-        act: &Act,
-    ) -> Result<Turn, NoMemory>
+    pub fn act(&mut self, alloc: Global, place: u64, time: u64, act: &Act) -> Result<Turn, NoMemory>
         requires { IsKept self.old.slots.entries self.old.ends self.old.touched }
         ensures turn { IfOk result (λ turn. turn ≡ (acted self.old.slots.entries place time act.now).turn) }
         ensures after { OnOk result (self.new.slots.entries ≡ (acted self.old.slots.entries place time act.now).state) }
@@ -184,10 +178,13 @@ impl Shelf {
             told: List::from_vec(told),
         })
     }
-}
 
-impl Duplicate for Shelf {
-    fn copy(&self) -> Result<Shelf, NoMemory> {
+    /// The same resources at the same names, with the same indexes.
+    pub fn copy(&self) -> Result<Shelf, NoMemory>
+        ensures slots { IfOk result (λ other. other.slots.entries ≡ self.now.slots.entries) }
+        ensures ends { IfOk result (λ other. other.ends ≡ self.now.ends) }
+        ensures touched { IfOk result (λ other. other.touched ≡ self.now.touched) }
+    {
         Ok(Shelf {
             slots: self.slots.clone()?,
             ends: self.ends.copy()?,

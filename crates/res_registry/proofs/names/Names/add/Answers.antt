@@ -1,4 +1,4 @@
-use Rattle.std.proofs.Common.{◌≡◌, ◌∙◌, sym, ap, true, ℕ, List}
+use Rattle.std.proofs.Common.{◌≡◌, ◌∙◌, sym, true}
 use Rattle.spec_book.specs.Dict.{has_text}
 use Rattle.res_registry.proofs.Changes.{has-again}
 use Rattle.res_registry.proofs.names.Names.add.Goals as goal

@@ -1,4 +1,4 @@
-use Rattle.std.proofs.Common.{◌≡◌, ◌∙◌, sym, rules}
+use Rattle.std.proofs.Common.{rules}
 use Rattle.res_registry.proofs.Changes.{has-added}
 use Rattle.res_registry.proofs.names.Touched.add.Goals as goal
 

@@ -1,4 +1,4 @@
-use Rattle.std.proofs.Common.{◌≡◌, ◌∙◌, ap, ℕ, List}
+use Rattle.std.proofs.Common.{◌∙◌, ap, ℕ, List}
 use Rattle.ax_types.specs.declared.replies.Reply.TheVariants as reply
 use Rattle.ax_types.specs.declared.replies.Event.{Event}
 use Rattle.ax_types.specs.declared.replies.Turn.{Turn}

@@ -1,5 +1,3 @@
-use Rattle.std.proofs.Common.{◌≡◌, ◌∙◌, ap}
-use Rattle.spec_book.specs.Resources.{Resource}
 use Rattle.res_registry.proofs.Turns.{kept-first}
 use Rattle.res_registry.proofs.shelf.Shelf.first_turn.Goals as goal
 
