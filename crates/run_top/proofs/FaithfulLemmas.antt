@@ -3,7 +3,6 @@ use Rattle.std.proofs.Common.{◌≡◌, ℕ, ◌+◌, Bool, true, false, ◌&&�
 use Rattle.std.specs.Prelude.{Option, Some, None, IfSome, Result, Ok, Err, IfOk, IsOkAnd, IsTrue}
 use Rattle.std.specs.List.{list_all}
 use Rattle.ax_types.specs.declared.ops.Op.{Op}
-use Rattle.ax_types.specs.declared.ops.Op.TheVariants as op
 use Rattle.ax_types.specs.declared.scripts.Line.{Line}
 use Rattle.ax_types.specs.declared.scripts.Line.TheVariants as line
 use Rattle.ax_types.specs.declared.scripts.Script.{Script}
@@ -11,7 +10,7 @@ use Rattle.ax_types.specs.declared.steps.Step.TheVariants as step
 use Rattle.law_single.specs.Laws.{AreQuiet}
 use Rattle.law_single.proofs.Faithful.{narrow_faithful}
 use Rattle.spec_script.specs.Scripts.{Refusal, read_script_of}
-use Rattle.spec_single.specs.Form.{Call, Due, AnElect, AnOpen, AFlush, ACallOrEnd, Followed, Leads, IsCall, IsNotDue, Lines, Calls, NotOfForm, EndsEarly, is_quiet, is_built, most_calls, followed, with_call, after_line, lines_from, form_of}
+use Rattle.spec_single.specs.Form.{Call, Due, AnElect, AnOpen, AFlush, ACallOrEnd, Followed, Leads, IsCall, IsNotDue, Lines, Calls, NotOfForm, EndsEarly, is_quiet, most_calls, followed, with_call, after_line, lines_from, form_of}
 use Rattle.run_top.specs.Answers.{calls_or_refusal, is_single, cluster_line, not_built, judged_as, judged}
 use Rattle.run_top.specs.Outcomes.{RunsFaithfully, input_bytes}
 
@@ -27,10 +26,13 @@ AreQuietLines (Calls cs) = AreQuiet cs
 AreQuietLines (NotOfForm n) = Unit {0}
 AreQuietLines EndsEarly = Unit {0}
 
-call_quiet : (name : List ℕ) (o : Op) (b : Bool) → IsQuietNext (cond (is_built o && b) (IsCall (name, o)) IsNotDue)
-call_quiet name (op.Long o) true = refl
-call_quiet name (op.Long o) false = tt
-call_quiet name o b = tt
+quiet_or_not : (name : List ℕ) (o : Op) (quiet b : Bool) → is_quiet o ≡ quiet → IsQuietNext (cond (quiet && b) (IsCall (name, o)) IsNotDue)
+quiet_or_not name o true true e = e
+quiet_or_not name o true false e = tt
+quiet_or_not name o false b e = tt
+
+call_quiet : (name : List ℕ) (o : Op) (b : Bool) → IsQuietNext (cond (is_quiet o && b) (IsCall (name, o)) IsNotDue)
+call_quiet name o b = quiet_or_not name o (is_quiet o) b refl
 
 followed_quiet : (due : Due) (made : ℕ) (l : Line) → IsQuietNext (followed due made l)
 followed_quiet AnElect made (line.Do (step.Elect k)) = tt

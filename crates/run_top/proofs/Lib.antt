@@ -1,3 +1,2 @@
 pub mod FaithfulLemmas
-pub mod LongLemmas
 pub mod ReportLemmas

@@ -5,7 +5,7 @@ use Rattle.ax_types.specs.declared.statuses.Why.{Why}
 use Rattle.spec_script.specs.Scripts.{Refusal}
 use Rattle.spec_single.specs.Form.{Call}
 use Rattle.run_top.specs.Runs.{call_of}
-use Rattle.run_top.specs.declared.run.LongCall.{LongCall}
+use Rattle.run_top.specs.declared.run.Call as declared
 use Rattle.run_top.specs.declared.refusals.Refused.{Refused}
 use Rattle.run_top.specs.declared.refusals.Refused.TheVariants.{Usage, Script, ReadFault, NoMemory}
 
@@ -21,7 +21,7 @@ Refuses meant Usage = ⊥
 Refuses meant ReadFault = ⊥
 
 -- these are the calls, or the refusal is this one; want of memory says nothing
-abbrev pub Judges : Result (List Call) Refusal → Result (Vec LongCall) Refused → Type 0
+abbrev pub Judges : Result (List Call) Refusal → Result (Vec declared.Call) Refused → Type 0
 Judges meant (Ok calls) = meant ≡ Ok (map call_of calls.items)
 Judges meant (Err (Script line why)) = meant ≡ Err (at_line line why)
 Judges meant (Err NoMemory) = ⊤

@@ -1,7 +1,6 @@
 pub mod Answers
 pub mod Forms
 pub mod Judging
-pub mod Longs
 pub mod Outcomes
 pub mod Runs
 pub mod Statuses

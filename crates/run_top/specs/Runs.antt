@@ -1,16 +1,15 @@
--- Runs of calls of longs.
-use Rattle.std.specs.Prelude.{ℕ, ◌+◌, List, [], ◌∷◌, ◌++◌, ℤ}
-use Rattle.ax_types.specs.declared.ops.Op.TheVariants as op
+-- The calls of a run.
+use Rattle.std.specs.Prelude.{ℕ, ◌+◌, List, [], ◌∷◌}
 use Rattle.ax_types.specs.declared.ops.WindowCall.TheVariants as call
 use Rattle.ax_types.specs.declared.replies.Reply.{Reply}
 use Rattle.ax_types.specs.declared.items.Item.{Item}
 use Rattle.ax_types.specs.declared.items.Item.TheVariants as item
 use Rattle.spec_single.specs.Form.{Call}
-use Rattle.run_top.specs.declared.run.LongCall.{LongCall}
+use Rattle.run_top.specs.declared.run.Call as declared
 
 -- a call of the program, as one of the narrow form
-abbrev pub call_of : LongCall → Call
-call_of c = (c.name, op.Long c.operation)
+abbrev pub call_of : declared.Call → Call
+call_of c = (c.name, c.op)
 
 -- the items of the i-th call
 abbrev pub call_items : ℕ → Call → Reply → List Item

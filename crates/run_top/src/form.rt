@@ -4,8 +4,8 @@ ghost use Rattle.spec_single.specs.Form as spec;
 ghost use Rattle.run_top.specs.Forms.{due_of, followed_of, IsWithin, lines_of, call_count, with_calls};
 ghost use Rattle.run_top.specs.Runs.{call_of};
 
-use crate::run::LongCall;
-use ax_types::{Duplicate, Line, NoMemory, Op, Step};
+use crate::run::Call;
+use ax_types::{Duplicate, GroupOp, Line, LockOp, MapOp, NoMemory, Op, Step, TopicOp, ValueOp};
 use std::alloc::Global;
 
 /// The most calls of the narrow form.
@@ -25,7 +25,7 @@ enum Due {
 enum Followed {
     /// It is the line that is due, and leads to the next.
     Leads(Due),
-    IsCall(LongCall),
+    IsCall(Call),
     IsNotDue,
 }
 
@@ -33,10 +33,24 @@ enum Followed {
 #[derive(Debug, PartialEq, Drop)]
 pub enum Form {
     /// The narrow form, with these calls.
-    Calls(Vec<LongCall>),
+    Calls(Vec<Call>),
     /// The line with this number is the first that is not the one that the form has there.
     NotOfForm(u64),
     EndsEarly,
+}
+
+/// Whether an operation tells no event where one session alone acts.
+fn is_quiet(op: &Op) -> bool
+    ensures { result ≡ spec.is_quiet op.now }
+{
+    !matches!(
+        op,
+        Op::Map(MapOp::Listen)
+            | Op::Value(ValueOp::Listen)
+            | Op::Lock(LockOp::Lock)
+            | Op::Group(GroupOp::Listen)
+            | Op::Topic(TopicOp::Subscribe)
+    )
 }
 
 /// What a step is where a call is due and so many were made.
@@ -46,14 +60,12 @@ fn followed_by_step(made: usize, step: &Step) -> Result<Followed, NoMemory>
     ensures within { IfOk result (IsWithin made) }
 {
     match step {
-        Step::Call {
-            name,
-            op: Op::Long(operation),
-            ..
-        } if made < MOST_CALLS => Ok(Followed::IsCall(LongCall {
-            name: name.copy()?,
-            operation: *operation,
-        })),
+        Step::Call { name, op, .. } if is_quiet(op) && made < MOST_CALLS => {
+            Ok(Followed::IsCall(Call {
+                name: name.copy()?,
+                op: op.copy()?,
+            }))
+        }
         _ => Ok(Followed::IsNotDue),
     }
 }
@@ -73,7 +85,7 @@ fn followed_by_line(due: Due, made: usize, line: &Line) -> Result<Followed, NoMe
 }
 
 /// What lines that end where this is due are, after these calls.
-fn at_end(due: Due, calls: Vec<LongCall>) -> Form
+fn at_end(due: Due, calls: Vec<Call>) -> Form
     ensures form { lines_of result ≡ with_calls (map call_of calls.items) (spec.at_end (due_of due)) }
     ensures few { call_count result ≤ vec_len calls }
 {

@@ -6,7 +6,7 @@ ghost use Rattle.run_top.specs.Judging.{Judges, Refuses, at_line};
 use crate::form::{Form, form_of};
 use crate::lines::{cluster_line, first_lines, line_count};
 use crate::refusals::Refused;
-use crate::run::LongCall;
+use crate::run::Call;
 use ax_types::{NoMemory, Script, Why};
 use script_text::{ScriptRefused, read_script};
 use std::alloc::Global;
@@ -29,7 +29,7 @@ fn is_single(script: &Script) -> bool
 }
 
 /// The calls of a script that was read from these bytes.
-fn narrow_calls(alloc: Global, bytes: &[u8], script: &Script) -> Result<Vec<LongCall>, Refused>
+fn narrow_calls(alloc: Global, bytes: &[u8], script: &Script) -> Result<Vec<Call>, Refused>
     ensures judged { Judges (narrow_of bytes.now script.now) result }
     ensures few { IfOk result (λ calls. vec_len calls ≤ 1000) }
 {
@@ -76,7 +76,7 @@ fn first_refused(alloc: Global, bytes: &[u8], line: u64, why: Why) -> Refused
 }
 
 /// The calls of the narrow script that the bytes are, or the first line that is refused and why.
-pub fn judge(alloc: Global, bytes: &[u8]) -> Result<Vec<LongCall>, Refused>
+pub fn judge(alloc: Global, bytes: &[u8]) -> Result<Vec<Call>, Refused>
     ensures judged { Judges (judged bytes.now) result }
     ensures few { IfOk result (λ calls. vec_len calls ≤ 1000) }
 {

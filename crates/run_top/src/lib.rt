@@ -10,7 +10,6 @@ ghost use Rattle.run_top.specs.Outcomes.{IsOfRun, TellsUsage, TellsRefusal, Answ
 mod form;
 mod judge;
 mod lines;
-mod longs;
 mod reading;
 mod refusals;
 mod report;

@@ -5,7 +5,7 @@ ghost use Rattle.spec_report.specs.Report as spec;
 ghost use Rattle.run_top.specs.Answers.{run_report};
 ghost use Rattle.run_top.specs.Runs.{call_of};
 
-use crate::run::{LongCall, Shown, run};
+use crate::run::{Call, Shown, run};
 use ax_types::{ClientId, NoMemory, NodeId, RunEnd};
 use report_text::{end_text, history_text, items_text};
 use std::alloc::Global;
@@ -26,7 +26,7 @@ pub fn report_of_calls(
     alloc: Global,
     node: NodeId,
     client: ClientId,
-    calls: &[LongCall],
+    calls: &[Call],
 ) -> Result<String, NoMemory>
     requires one_node { node ≡ 1 }
     requires one_client { client ≡ 1 }

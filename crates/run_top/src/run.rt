@@ -3,17 +3,15 @@ ghost use Rattle.spec_claims.specs.Transcript.{transcript};
 ghost use Rattle.spec_single.specs.Run.{start_shown, call_act, run_items, run_history};
 ghost use Rattle.run_top.specs.Runs.{call_of, call_items};
 
-use crate::longs::Longs;
-use ax_types::{
-    Act, ClientId, Duplicate, Item, LongOp, Name, NoMemory, NodeId, Op, Reply, WindowCall,
-};
+use ax_types::{Act, ClientId, Duplicate, Item, Name, NoMemory, NodeId, Op, Reply, WindowCall};
+use res_registry::Book;
 use std::alloc::Global;
 
-/// A call of the narrow form: an operation on the long of a name.
+/// A call of the narrow form: an operation on the resource of a name.
 #[derive(Debug, PartialEq, Drop)]
-pub struct LongCall {
+pub struct Call {
     pub name: Name,
-    pub operation: LongOp,
+    pub op: Op,
 }
 
 /// What a run shows: its items, and its history of times and acts.
@@ -26,19 +24,17 @@ pub struct Shown {
 /// The session that the one client of a narrow run opens: the place of its opening.
 const SESSION: u64 = 2;
 
+/// The log time of every act of a narrow run, in which no clock is set.
+const LOG_TIME: u64 = 0;
+
 /// Shows that the i-th call is made, committed and replied to.
-fn show_call(
-    items: &mut Vec<Item>,
-    call: &LongCall,
-    number: u64,
-    reply: Reply,
-) -> Result<(), NoMemory>
+fn show_call(items: &mut Vec<Item>, call: &Call, number: u64, reply: Reply) -> Result<(), NoMemory>
     requires { number ≤ 1000 }
     ensures { OnOk result (items.new.items ≡ items.old.items ++ call_items number (call_of call.now) reply) }
 {
     let made = WindowCall::Command {
         name: call.name.copy()?,
-        op: Op::Long(call.operation),
+        op: call.op.copy()?,
     };
     items.push(Item::Called {
         session: SESSION,
@@ -56,18 +52,15 @@ fn show_call(
     Ok(())
 }
 
-/// The act of a call, at its log time.
-fn act_of(call: &LongCall) -> Result<(u64, Act), NoMemory>
-    ensures { IfOk result (λ a. a ≡ (0, call_act (call_of call.now))) }
+/// The act of a call.
+fn act_of(call: &Call) -> Result<Act, NoMemory>
+    ensures { IfOk result (λ act. act ≡ call_act (call_of call.now)) }
 {
-    Ok((
-        0,
-        Act::Do {
-            session: SESSION,
-            name: call.name.copy()?,
-            op: Op::Long(call.operation),
-        },
-    ))
+    Ok(Act::Do {
+        session: SESSION,
+        name: call.name.copy()?,
+        op: call.op.copy()?,
+    })
 }
 
 /// Shows the election of node 1 and the opening of session 2.
@@ -86,17 +79,15 @@ fn show_start(alloc: Global, node: NodeId, client: ClientId) -> Result<Shown, No
             client
         },
     ]?;
-    let history = vec![in alloc; (0, Act::Nothing), (0, Act::Open { client, opening: 1 })]?;
+    let history = vec![in alloc;
+        (LOG_TIME, Act::Nothing),
+        (LOG_TIME, Act::Open { client, opening: 1 }),
+    ]?;
     Ok(Shown { items, history })
 }
 
 /// Runs the calls, one after another, on one node that leads.
-pub fn run(
-    alloc: Global,
-    node: NodeId,
-    client: ClientId,
-    calls: &[LongCall],
-) -> Result<Shown, NoMemory>
+pub fn run(alloc: Global, node: NodeId, client: ClientId, calls: &[Call]) -> Result<Shown, NoMemory>
     requires one_node { node ≡ 1 }
     requires one_client { client ≡ 1 }
     requires few { length calls.now ≤ 1000 }
@@ -104,12 +95,13 @@ pub fn run(
     ensures history { IfOk result (λ s. s.history.items ≡ run_history (map call_of calls.now)) }
 {
     let mut shown = show_start(alloc, node, client)?;
-    let mut longs = Longs::new(alloc);
+    let mut book = Book::new(alloc);
     let mut number = 1;
     'calls: for call in calls {
-        let turn = longs.act(number + 2, SESSION, &call.name, &call.operation)?;
+        let act = act_of(call)?;
+        let turn = book.act(number + 2, LOG_TIME, &act)?;
         show_call(&mut shown.items, call, number, turn.reply)?;
-        shown.history.push(act_of(call)?)?;
+        shown.history.push((LOG_TIME, act))?;
         number += 1;
     }
     Ok(shown)

@@ -1,5 +1,5 @@
 -- The narrow form: a cluster of one node and one client, `elect 1`, `open 1 1`, `flush`, and then up to 1,000 calls of client 1
--- that tell no event to the one session, each followed by `flush`. Of those calls the program runs the ones that are built.
+-- that tell no event to the one session, each followed by `flush`.
 use Rattle.std.specs.Prelude.{ℕ, ◌+◌, Bool, true, false, ◌&&◌, nat_eq, nat_lt, if◌then◌else◌, List, [], ◌∷◌}
 use Rattle.ax_types.specs.declared.ops.Op.{Op}
 use Rattle.ax_types.specs.declared.ops.Op.TheVariants as op
@@ -54,11 +54,6 @@ is_quiet (op.Set o) = true
 is_quiet (op.Queue o) = true
 is_quiet (op.Multimap o) = true
 
--- whether the program runs the operation today: it is one of a long
-abbrev pub is_built : Op → Bool
-is_built (op.Long o) = true
-is_built o = false
-
 -- a call of client 1: the name and the operation
 abbrev pub Call : Type 0
 Call = List ℕ × Op
@@ -100,7 +95,7 @@ abbrev pub followed : Due → ℕ → Line → Followed
 followed AnElect made (line.Do (step.Elect k)) = Leads AnOpen
 followed AnOpen made (line.Do (step.Open c k)) = Leads AFlush
 followed AFlush made line.Flush = Leads ACallOrEnd
-followed ACallOrEnd made (line.Do (step.Call c name o)) = if is_built o && nat_lt made most_calls then IsCall (name, o) else IsNotDue
+followed ACallOrEnd made (line.Do (step.Call c name o)) = if is_quiet o && nat_lt made most_calls then IsCall (name, o) else IsNotDue
 followed due made l = IsNotDue
 
 -- the lines that follow one, by what it is
