@@ -1,0 +1,7 @@
+use Rattle.std.proofs.Common.{refl}
+use Rattle.spec_gen.specs.Generator.{turn_count}
+use Rattle.script_gen.proofs.script.turn_count.Goals as goal
+
+pub returns-clause-count : goal.returns-clause-count
+unfolding turn_count
+returns-clause-count c = refl
