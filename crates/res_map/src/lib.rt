@@ -5,5 +5,7 @@ mod deadlines;
 mod entries;
 mod items;
 mod map;
+#[cfg(test)]
+mod tests;
 
 pub use map::{MAX_ENTRIES, MapBox};
