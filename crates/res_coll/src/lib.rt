@@ -8,6 +8,8 @@ mod multimap;
 mod pairs;
 mod queue;
 mod set;
+#[cfg(test)]
+mod tests;
 mod topic;
 
 use ax_types::Reply;

@@ -1,6 +1,9 @@
 //! Locks, whose grants have fencing numbers.
 #![tactic(auto)]
 
+#[cfg(test)]
+mod tests;
+
 ghost use Rattle.std.specs.Prelude.{◌≡◌, ℕ, false, ◌∷◌, [], IfOk, OnOk, OnErr, IsSome, IsTrue};
 ghost use Rattle.spec_book.specs.Dict.{has_session, without_session};
 ghost use Rattle.spec_book.specs.Resources.{new_lock, replied};

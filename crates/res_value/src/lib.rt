@@ -2,6 +2,8 @@
 #![tactic(auto)]
 
 mod long;
+#[cfg(test)]
+mod tests;
 mod value;
 
 pub use long::LongBox;
