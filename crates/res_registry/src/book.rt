@@ -1,6 +1,7 @@
 ghost use Rattle.std.specs.Prelude.{◌≡◌, true, false, [], IfOk, OnOk, OnErr};
 ghost use Rattle.spec_book.specs.Book.{acted, ask};
 
+use crate::shelf::Shelf;
 use ax_types::{Act, Duplicate, Name, NoMemory, Query, Reply, Turn};
 use std::alloc::Global;
 use std::marker::Model;
@@ -10,16 +11,20 @@ use std::marker::Model;
 #[derive(Drop)]
 pub struct Book {
     alloc: Global,
+    shelf: Shelf,
     is_spent: bool,
 }
 
 impl Model for Book {
-    ghost use Rattle.std.specs.Prelude.{[]};
+    ghost use Rattle.std.specs.Prelude.{◌≡◌, false};
+    ghost use Rattle.res_registry.specs.Kept.{IsKept};
     ghost use Rattle.res_registry.specs.State.{BookState};
 
     ghost Value = { BookState };
 
-    ghost view = { λ a. record { resources = []; is_spent = a.is_spent } };
+    ghost view = { λ a. record { resources = a.shelf.slots.entries; is_spent = a.is_spent } };
+
+    ghost invariant = { λ a. a.is_spent ≡ false → IsKept a.shelf.slots.entries a.shelf.ends a.shelf.touched };
 }
 
 impl Book {
@@ -29,6 +34,7 @@ impl Book {
     {
         Book {
             alloc,
+            shelf: Shelf::new(alloc),
             is_spent: false,
         }
     }
@@ -42,19 +48,25 @@ impl Book {
         ensures err { OnErr result (self.new.is_spent ≡ true) }
     {
         self.is_spent = true;
-        Err(NoMemory)
+        let turn = self.shelf.act(self.alloc, place, time, act)?;
+        self.is_spent = false;
+        Ok(turn)
     }
 
     /// What a query at a name is answered. An unused name answers as a new resource of the query's kind.
     pub fn ask(&self, name: &Name, query: &Query) -> Result<Reply, NoMemory>
         ensures { IfOk result (λ reply. reply ≡ ask self.now.resources name.now query.now) }
     {
-        Err(NoMemory)
+        self.shelf.ask(self.alloc, name, query)
     }
 }
 
 impl Duplicate for Book {
     fn copy(&self) -> Result<Book, NoMemory> {
-        Err(NoMemory)
+        Ok(Book {
+            alloc: self.alloc,
+            shelf: self.shelf.copy()?,
+            is_spent: self.is_spent,
+        })
     }
 }

@@ -2,5 +2,11 @@
 #![tactic(auto)]
 
 mod book;
+mod ends;
+mod kinds;
+mod names;
+mod shelf;
+mod slot;
+mod visits;
 
 pub use crate::book::Book;

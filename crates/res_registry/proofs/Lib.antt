@@ -1,0 +1,15 @@
+pub mod Acts
+pub mod Changes
+pub mod Each
+pub mod Ended
+pub mod Endings
+pub mod Found
+pub mod Indexes
+pub mod Kept
+pub mod Known
+pub mod Quiet
+pub mod Sessions
+pub mod Single
+pub mod Turns
+pub mod Walks
+pub mod Written

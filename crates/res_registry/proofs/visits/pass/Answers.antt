@@ -1,0 +1,15 @@
+use Rattle.std.proofs.Common.{◌∙◌}
+use Rattle.res_registry.proofs.Ended.{walked_passed}
+use Rattle.res_registry.proofs.visits.pass.Goals as goal
+
+pub returns-clause-told : goal.returns-clause-told
+returns-clause-told c =
+    c.in_ok-told.ensures.told
+    ∙ (walked_passed c.args.time c.in_ok-names.names c.args.slots.now.entries c.args.ends.now c.requires.ends c.in_ok-names.ensures c.pass_all.ensures.ascending
+    c.requires.ascending).1
+
+pub returns-clause-after : goal.returns-clause-after
+returns-clause-after c =
+    c.in_ok-told.ensures.after
+    ∙ (walked_passed c.args.time c.in_ok-names.names c.args.slots.now.entries c.args.ends.now c.requires.ends c.in_ok-names.ensures c.pass_all.ensures.ascending
+    c.requires.ascending).0

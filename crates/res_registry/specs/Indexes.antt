@@ -1,0 +1,71 @@
+-- The book's two indexes: of the next end of a life by time, and of the names of a session.
+use Rattle.std.specs.Prelude.{◌≡◌, ℕ, Bool, true, false, ◌||◌, List, [], Option, Some, None}
+use Rattle.std.specs.declared.cmp.Ordering.{Ordering}
+use Rattle.std.specs.Ordering.{nat_cmp, then_cmp, on}
+use Rattle.std.specs.List.{list_any}
+use Rattle.std.specs.BTreeMap.{is_at}
+use Rattle.std.specs.Map.{lookup}
+use Rattle.ax_types.specs.declared.ops.Op.{Op}
+use Rattle.ax_types.specs.declared.ops.Op.TheVariants as op
+use Rattle.ax_types.specs.declared.ops.MapOp.TheVariants as map_op
+use Rattle.ax_types.specs.declared.ops.ValueOp.TheVariants as value_op
+use Rattle.ax_types.specs.declared.ops.LockOp.TheVariants as lock_op
+use Rattle.ax_types.specs.declared.ops.GroupOp.TheVariants as group_op
+use Rattle.ax_types.specs.declared.ops.TopicOp.TheVariants as topic_op
+use Rattle.spec_book.specs.Dict.{bytes_cmp, found, has_session, has_text}
+use Rattle.spec_book.specs.Resources.{Resource, AMap, AValue, ALock, AGroup, ATopic}
+use Rattle.spec_book.specs.Owners.{has_part}
+use Rattle.spec_book.specs.Book.{Book}
+use Rattle.res_map.specs.Deadlines.{first_end}
+
+-- the first log time at which the life of an entry of the resource ends, where it has one
+abbrev pub next_end : Resource → Option ℕ
+next_end (AMap s) = first_end s.entries
+next_end r = None
+
+-- whether a session listens to the resource or has a part in it, so that the session's end may change it
+abbrev pub knows : Resource → ℕ → Bool
+knows (AMap s) session = has_session s.listeners session
+knows (AValue s) session = has_session s.listeners session
+knows (ALock s) session = has_part s session
+knows (AGroup s) session = has_session s.members session || has_session s.listeners session
+knows (ATopic s) session = has_session s session
+knows r session = false
+
+-- whether an operation may make its session one that the resource knows
+abbrev pub registers : Op → Bool
+registers (op.Map map_op.Listen) = true
+registers (op.Value value_op.Listen) = true
+registers (op.Lock lock_op.Lock) = true
+registers (op.Lock lock_op.TryLock) = true
+registers (op.Group group_op.Join) = true
+registers (op.Group group_op.Listen) = true
+registers (op.Topic topic_op.Subscribe) = true
+registers o = false
+
+-- the order of the index of ends: by time, then by name
+abbrev pub end_cmp : ℕ × List ℕ → ℕ × List ℕ → Ordering
+end_cmp = then_cmp (on (λ d. d.0) nat_cmp) (on (λ d. d.1) bytes_cmp)
+
+-- whether the index has the time with the name
+abbrev pub has_end : List (ℕ × List ℕ) → ℕ → List ℕ → Bool
+has_end ends time name = list_any (is_at (end_cmp (time, name))) ends
+
+-- the index has the next end of each resource, with its name
+abbrev pub HasEnds : Book → List (ℕ × List ℕ) → Type 0
+HasEnds book ends =
+    (name : List ℕ) (r : Resource) (time : ℕ) → found book name ≡ Some r → next_end r ≡ Some time → has_end ends time name ≡ true
+
+-- the names of a session, where it has any
+abbrev pub names_of : Option (List (List ℕ)) → List (List ℕ)
+names_of None = []
+names_of (Some names) = names
+
+abbrev pub session_names : List (ℕ × List (List ℕ)) → ℕ → List (List ℕ)
+session_names index session = names_of (lookup (is_at (nat_cmp session)) index)
+
+-- the index has, for each session, the name of each resource that knows it
+abbrev pub HasNames : Book → List (ℕ × List (List ℕ)) → Type 0
+HasNames book index =
+    (name : List ℕ) (r : Resource) (session : ℕ) → found book name ≡ Some r → knows r session ≡ true
+    → has_text (session_names index session) name ≡ true

@@ -1,0 +1,145 @@
+ghost use Rattle.std.specs.Prelude.{◌≡◌, ℕ, List as Items, [], true, false, cond, IfOk, OnOk, OnErr, IsTrue};
+ghost use Rattle.std.specs.Ordering.{nat_cmp};
+ghost use Rattle.std.specs.List.Sorted.{IsStrictlySortedBy};
+ghost use Rattle.std.specs.BTreeMap.{is_at};
+ghost use Rattle.spec_book.specs.Dict.{bytes_cmp, has_text};
+ghost use Rattle.res_registry.specs.Indexes.{session_names, registers};
+ghost use Rattle.res_registry.specs.Steps.{NotesName};
+
+use crate::kinds::registers;
+use ax_types::{Duplicate, Name, NoMemory, Op};
+use std::alloc::{AllocError, Global};
+use std::collections::btree_set::Iter;
+use std::collections::{BTreeMap, BTreeSet};
+use std::marker::Model;
+
+/// Names, each once, which contracts see as their list in ascending order.
+#[derive(Drop)]
+pub struct Names {
+    names: BTreeSet<Name>,
+}
+
+impl Model for Names {
+    ghost use Rattle.std.specs.Prelude.{ℕ, List as Items};
+
+    ghost Value = { Items (Items ℕ) };
+
+    ghost view = { λ a. a.names.keys };
+}
+
+impl Names {
+    /// No name. It takes no memory.
+    pub fn new(alloc: Global) -> Self
+        ensures { result ≡ [] }
+    {
+        Names {
+            names: BTreeSet::new(alloc),
+        }
+    }
+
+    /// Adds a name. The names are unchanged after want of memory.
+    pub fn add(&mut self, name: &Name) -> Result<(), NoMemory>
+        ensures ok { OnOk result ((q : Items ℕ) → has_text self.new q ≡ cond (is_at (bytes_cmp name.now) q) true (has_text self.old q)) }
+        ensures err { OnErr result (self.new ≡ self.old) }
+    {
+        if !self.names.contains(name) {
+            self.names.insert(name.copy()?)?;
+        }
+        Ok(())
+    }
+
+    /// The names, in ascending order.
+    pub fn iter(&self) -> Iter<'_, Name>
+        ensures rest { result ≡ self.now }
+        ensures ascending { IsStrictlySortedBy bytes_cmp self.now }
+    {
+        self.names.iter()
+    }
+}
+
+impl Clone for Names {
+    ghost is_clone = { λ s t. t ≡ s };
+
+    fn clone(&self) -> Result<Names, AllocError> {
+        Ok(Names {
+            names: self.names.clone()?,
+        })
+    }
+}
+
+/// For each session the names of resources that may know it, which contracts see as their list in ascending order of
+/// session.
+#[derive(Drop)]
+pub struct Touched {
+    alloc: Global,
+    names: BTreeMap<u64, Names>,
+}
+
+impl Model for Touched {
+    ghost use Rattle.std.specs.Prelude.{ℕ, List as Items};
+
+    ghost Value = { Items (ℕ × Items (Items ℕ)) };
+
+    ghost view = { λ a. a.names.entries };
+}
+
+impl Touched {
+    /// No session. It takes no memory.
+    pub fn new(alloc: Global) -> Self
+        ensures { result ≡ [] }
+    {
+        Touched {
+            alloc,
+            names: BTreeMap::new(alloc),
+        }
+    }
+
+    /// Adds the name to those of the session.
+    fn add(&mut self, session: u64, name: &Name) -> Result<(), NoMemory>
+        ensures keeps { OnOk result ((s : ℕ) (q : Items ℕ) → has_text (session_names self.old s) q ≡ true → has_text (session_names self.new s) q ≡ true) }
+        ensures has { OnOk result (has_text (session_names self.new session) name.now ≡ true) }
+    {
+        match self.names.get_mut(&session) {
+            Some(names) => {
+                names.add(name)?;
+                Ok(())
+            }
+            None => {
+                let mut names = Names::new(self.alloc);
+                names.add(name)?;
+                self.names.insert(session, names)?;
+                Ok(())
+            }
+        }
+    }
+
+    /// Adds the name to those of the session where the operation may make the resource know the session.
+    pub fn note(&mut self, session: u64, name: &Name, op: &Op) -> Result<(), NoMemory>
+        ensures { OnOk result (NotesName self.old self.new session name.now op.now) }
+    {
+        if registers(op) {
+            self.add(session, name)?;
+        }
+        Ok(())
+    }
+
+    /// Takes the names of a session out.
+    pub fn take(&mut self, session: u64) -> Names
+        ensures names { result ≡ session_names self.old session }
+        ensures others { (s : ℕ) → is_at (nat_cmp session) s ≡ false → session_names self.new s ≡ session_names self.old s }
+    {
+        match self.names.remove(&session) {
+            None => Names::new(self.alloc),
+            Some(names) => names,
+        }
+    }
+}
+
+impl Duplicate for Touched {
+    fn copy(&self) -> Result<Touched, NoMemory> {
+        Ok(Touched {
+            alloc: self.alloc,
+            names: self.names.clone()?,
+        })
+    }
+}
