@@ -28,10 +28,6 @@ end_here (Some end) time e =
     let same : end ≡ time = cc in
     subst (λ (n : ℕ). is_at (nat_cmp end) n ≡ true) same ((eq_by_cmp_equiv nat_cmp_total).refl end)
 
--- nothing changes where the end stays
-pub ChangesEnd-same : (ends : List (ℕ × List ℕ)) (name : List ℕ) (before after : Option ℕ) → before ≡ after → ChangesEnd ends ends name before after
-ChangesEnd-same ends name before after same = record { others = λ time q apart. refl; has = λ time e had. had (same ∙ e) }
-
 -- the end that came after is added, and then the one before is taken out
 pub ChangesEnd-other : (ends added left : List (ℕ × List ℕ)) (name : List ℕ) (before after : Option ℕ) → option_eq nat_eq before after ≡ false
     → SetsDeadline true ends added after name → SetsDeadline false added left before name → ChangesEnd ends left name before after

@@ -4,7 +4,7 @@ use Rattle.std.specs.BTreeMap.{is_at}
 use Rattle.spec_book.specs.Dict.{bytes_cmp, found, with_entry}
 use Rattle.spec_book.specs.Resources.{Resource}
 use Rattle.spec_book.specs.Book.{Book}
-use Rattle.res_registry.specs.Walk.{Visit, visited_at, visited, walked_state, whole_state}
+use Rattle.res_registry.specs.Walk.{Visit, whole_state}
 use Rattle.res_registry.proofs.Found.{same_name, found_with_same, found_with_other}
 
 -- what holds of each resource, with its name
@@ -48,14 +48,3 @@ Each-whole P Q f book step each = λ k r there. by_found k r (found book k) refl
         let is : (f k before).state ≡ r = cc in
         let R : Resource → Type 0 = λ x. Q k x in
         subst R is (step k before (each k before e))
-
--- after some were visited, of what no visit ends
-pub Each-walked : (P : List ℕ → Resource → Type 0) (f : Visit) (names : List (List ℕ)) (book : Book)
-    → ((k : List ℕ) (r : Resource) → P k r → P k (f k r).state) → Each P book → Each P (walked_state f names book)
-Each-walked P f [] book step each = each
-Each-walked P f (n ∷ names) book step each =
-    Each-walked P f names (visited f book n).state step (by_found (found book n) refl)
-  where
-    by_found : (o : Option Resource) → found book n ≡ o → Each P (visited_at f book n o).state
-    by_found None e = each
-    by_found (Some r) e = Each-with P book n (f n r).state (λ k x there apart. each k x there) (step n r (each n r e))

@@ -1,23 +1,18 @@
 -- The two indexes have all that they are to have after a change of a book.
-use Rattle.std.proofs.Common.{◌≡◌, ℕ, true, false, ◌⊎◌, inl, inr, List, Option, Some, None, refl, sym, ◌∙◌, subst}
+use Rattle.std.proofs.Common.{◌≡◌, ℕ, true, false, List, Option, Some, sym, ◌∙◌}
 use Rattle.std.specs.BTreeMap.{is_at}
-use Rattle.std.proofs.lemmas.Bool.{false≢true}
-use Rattle.ax_types.specs.declared.ops.Op.{Op}
-use Rattle.ax_types.specs.declared.replies.Reply.TheVariants as reply
-use Rattle.spec_book.specs.Limits.{is_full}
-use Rattle.spec_book.specs.Dict.{bytes_cmp, found, with_entry, has_text}
-use Rattle.spec_book.specs.Resources.{Resource, new_resource, Acted, replied}
-use Rattle.spec_book.specs.Book.{Book, op_kind, resource_act, at_name, turn_at, turn, all_unlistened, pass, left}
-use Rattle.res_registry.specs.Indexes.{next_end, knows, registers, has_end, HasEnds, session_names, HasNames}
+use Rattle.spec_book.specs.Dict.{bytes_cmp, with_entry, has_text}
+use Rattle.spec_book.specs.Resources.{Resource}
+use Rattle.spec_book.specs.Book.{Book, all_unlistened, pass, left}
+use Rattle.res_registry.specs.Indexes.{next_end, knows, has_end, HasEnds, session_names, HasNames}
 use Rattle.res_registry.specs.Single.{IsSingle, AreSingle}
 use Rattle.res_registry.specs.Steps.{ChangesEnd}
-use Rattle.res_registry.specs.Walk.{Visit, walked_state, whole_state, unlisten_visit, pass_visit, leave_visit}
+use Rattle.res_registry.specs.Walk.{Visit, whole_state, unlisten_visit, pass_visit, leave_visit}
 use Rattle.res_registry.proofs.Found.{same_name_swapped}
-use Rattle.res_registry.proofs.Sessions.{either}
-use Rattle.res_registry.proofs.Known.{known-new, known-act, known-pass, known-unlistened, known-end}
+use Rattle.res_registry.proofs.Known.{known-pass, known-unlistened, known-end}
 use Rattle.res_registry.proofs.Quiet.{ends-unlistened, ends-end}
-use Rattle.res_registry.proofs.Single.{IsSingle-new, IsSingle-act, IsSingle-pass, IsSingle-unlistened, IsSingle-end}
-use Rattle.res_registry.proofs.Each.{Each, Each-with, Each-whole, Each-walked}
+use Rattle.res_registry.proofs.Single.{IsSingle-pass, IsSingle-unlistened, IsSingle-end}
+use Rattle.res_registry.proofs.Each.{Each, Each-with, Each-whole}
 
 -- what the indexes need to have of a resource
 abbrev NeedsEnd : List (ℕ × List ℕ) → List ℕ → Resource → Type 0
@@ -69,60 +64,7 @@ pub HasEnds-with : (book : Book) (ends now : List (ℕ × List ℕ)) (name : Lis
 HasEnds-with book ends now name after before changes had has =
     HasEnds-put book ends now name after has (λ time k apart is. changes.others time k apart ∙ is) (λ time is. changes.has time is (had time))
 
--- ---- after a command of a session at a name
--- the name is noted where the operation registers, and the resource needed no other than the index had
-HasNames-act : (book : Book) (index now : List (ℕ × List (List ℕ))) (name : List ℕ) (place time session : ℕ) (o : Op) (r : Resource) → HasNames book index
-    → KeepsNames index now
-    → (registers o ≡ true → has_text (session_names now session) name ≡ true)
-    → ((s : ℕ) → knows r s ≡ true → has_text (session_names index s) name ≡ true)
-    → HasNames (with_entry book name (resource_act name place time session o r).state) now
-HasNames-act book index now name place time session o r has keeps notes had =
-    HasNames-with book index now name (resource_act name place time session o r).state has keeps
-    (λ s is. by_known s (known-act name place time session o r s is))
-  where
-    by_known : (s : ℕ) → (knows r s ≡ true) ⊎ ((s ≡ session) × (registers o ≡ true)) → has_text (session_names now s) name ≡ true
-    by_known s (inl was) = keeps s name (had s was)
-    by_known s (inr is) = let P : ℕ → Type 0 = λ n. has_text (session_names now n) name ≡ true in subst P (sym is.0) (notes is.1)
-
-pub HasNames-turn : (book : Book) (index now : List (ℕ × List (List ℕ))) (place time session : ℕ) (name : List ℕ) (o : Op) → HasNames book index
-    → KeepsNames index now
-    → (registers o ≡ true → has_text (session_names now session) name ≡ true)
-    → HasNames (turn book place time session name o).state now
-HasNames-turn book index now place time session name o has keeps notes = by_found (found book name) refl
-  where
-    by_found : (r : Option Resource) → found book name ≡ r → HasNames (turn_at book place time session name o r).state now
-    by_found None e =
-        let new : Resource = new_resource (op_kind o) in
-        either (λ (a : Acted Book). HasNames a.state now) (is_full book) (replied book reply.Full) (at_name book name (resource_act name place time session o new))
-        (λ k r s there is. keeps s k (has k r s there is))
-        (HasNames-act book index now name place time session o new has keeps notes (λ s is. absurd (false≢true (sym (known-new (op_kind o) s) ∙ is))))
-    by_found (Some r) e = HasNames-act book index now name place time session o r has keeps notes (λ s is. has name r s e is)
-
-pub AreSingle-turn : (book : Book) (place time session : ℕ) (name : List ℕ) (o : Op) → AreSingle book → AreSingle (turn book place time session name o).state
-AreSingle-turn book place time session name o single = by_found (found book name) refl
-  where
-    by_found : (r : Option Resource) → found book name ≡ r → AreSingle (turn_at book place time session name o r).state
-    by_found None e =
-        let new : Resource = new_resource (op_kind o) in
-        let a : Acted Resource = resource_act name place time session o new in
-        either (λ (b : Acted Book). AreSingle b.state) (is_full book) (replied book reply.Full) (at_name book name a) single
-        (AreSingle-with book name a.state single (IsSingle-act name place time session o new (IsSingle-new (op_kind o))))
-    by_found (Some r) e =
-        AreSingle-with book name (resource_act name place time session o r).state single (IsSingle-act name place time session o r (single name r e))
-
 -- ---- after visits that make no new need
-pub HasEnds-walked : (f : Visit) (names : List (List ℕ)) (book : Book) (ends : List (ℕ × List ℕ))
-    → ((k : List ℕ) (r : Resource) → next_end (f k r).state ≡ next_end r) → HasEnds book ends → HasEnds (walked_state f names book) ends
-HasEnds-walked f names book ends same has =
-    from_each_end (walked_state f names book) ends (Each-walked (NeedsEnd ends) f names book
-    (λ k r needs time is. needs time (sym (same k r) ∙ is)) (each_end book ends has))
-
-pub HasNames-walked : (f : Visit) (names : List (List ℕ)) (book : Book) (index : List (ℕ × List (List ℕ)))
-    → ((k : List ℕ) (r : Resource) (s : ℕ) → knows (f k r).state s ≡ true → knows r s ≡ true) → HasNames book index
-    → HasNames (walked_state f names book) index
-HasNames-walked f names book index known has =
-    from_each_name (walked_state f names book) index (Each-walked (NeedsName index) f names book
-    (λ k r needs s is. needs s (known k r s is)) (each_name book index has))
 
 pub HasEnds-whole : (f : Visit) (book : Book) (ends : List (ℕ × List ℕ))
     → ((k : List ℕ) (r : Resource) → next_end (f k r).state ≡ next_end r) → HasEnds book ends → HasEnds (whole_state f book) ends

@@ -5,7 +5,6 @@ use Rattle.std.specs.BTreeMap.{is_at}
 use Rattle.std.specs.Map.{keys_of, set_value}
 use Rattle.std.proofs.lemmas.Bool.{false≢true}
 use Rattle.ax_types.specs.declared.ops.Op.{Op}
-use Rattle.ax_types.specs.declared.replies.Turn.{Turn}
 use Rattle.spec_book.specs.Dict.{bytes_cmp, found, with_entry, has_text}
 use Rattle.spec_book.specs.Resources.{Resource, new_resource}
 use Rattle.spec_book.specs.Book.{Book, op_kind, resource_act, turn_at, turn, pass}
@@ -87,19 +86,3 @@ turned-later book now name place time session o old r sorted there set is =
     set
     ∙ (set_value-with book name old r sorted there
     ∙ (ap (λ (x : Resource). with_entry book name x) is ∙ sym (ap (λ (x : Option Resource). (turn_at book place time session name o x).state) there)))
-
-pub told-later : (book : Book) (name : List ℕ) (place time session : ℕ) (o : Op) (old : Resource) (t : Turn) → found book name ≡ Some old
-    → t ≡ (resource_act name place time session o old).turn → t ≡ (turn book place time session name o).turn
-told-later book name place time session o old t there is =
-    is ∙ sym (ap (λ (x : Option Resource). (turn_at book place time session name o x).turn) there)
-
--- a first command
-pub turned-first : (book now : Book) (name : List ℕ) (place time session : ℕ) (o : Op) → found book name ≡ None
-    → now ≡ (turn_at book place time session name o None).state → now ≡ (turn book place time session name o).state
-turned-first book now name place time session o absent is =
-    is ∙ sym (ap (λ (x : Option Resource). (turn_at book place time session name o x).state) absent)
-
-pub told-first : (book : Book) (name : List ℕ) (place time session : ℕ) (o : Op) (t : Turn) → found book name ≡ None
-    → t ≡ (turn_at book place time session name o None).turn → t ≡ (turn book place time session name o).turn
-told-first book name place time session o t absent is =
-    is ∙ sym (ap (λ (x : Option Resource). (turn_at book place time session name o x).turn) absent)

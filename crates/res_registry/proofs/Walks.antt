@@ -12,9 +12,9 @@ use Rattle.ax_types.specs.declared.replies.Reply.TheVariants as reply
 use Rattle.ax_types.specs.declared.replies.Event.{Event}
 use Rattle.spec_book.specs.Dict.{bytes_cmp, found, with_entry, has_text}
 use Rattle.spec_book.specs.Resources.{Resource, Acted, replied}
-use Rattle.spec_book.specs.Book.{Book, all_unlistened, pass, passed, left, left_told}
-use Rattle.res_registry.specs.Walk.{Visit, visited_at, visited, walked_state, walked_told, whole_state, whole_told, unlisten_visit, pass_visit, leave_visit}
-use Rattle.res_registry.proofs.Found.{IsBelow, below_all, has_text-below, below_from_above, above_from_below, name_itself, same_name, none_below_head, none_past_head, found_head, found_tail, names_with}
+use Rattle.spec_book.specs.Book.{Book, passed, left_told}
+use Rattle.res_registry.specs.Walk.{Visit, visited_at, visited, walked_state, walked_told, whole_state, whole_told, pass_visit, leave_visit}
+use Rattle.res_registry.proofs.Found.{IsBelow, below_all, has_text-below, below_from_above, above_from_below, name_itself, same_name, none_below_head, none_past_head, found_head, found_tail}
 
 -- a visit that neither changes nor tells
 abbrev pub IsIdle : Visit → List ℕ → Resource → Type 0
@@ -140,22 +140,10 @@ walked_whole f (n ∷ names) (e ∷ book) ordered sorted idle =
         whole_above f (n ∷ names) e book sorted (below, below_all e.0 n names below (sorted_head bytes_cmp n names ordered)) idle over
 
 -- ---- the visits at the whole book
-pub whole_unlistened : (session : ℕ) (book : Book) → whole_state (unlisten_visit session) book ≡ all_unlistened session book
-whole_unlistened session book = refl
-
-pub whole_unlistened_told : (session : ℕ) (book : Book) → whole_told (unlisten_visit session) book ≡ []
-whole_unlistened_told session [] = refl
-whole_unlistened_told session (e ∷ book) = whole_unlistened_told session book
-
-pub whole_pass : (time : ℕ) (book : Book) → whole_state (pass_visit time) book ≡ pass time book
-whole_pass time book = refl
 
 pub whole_passed : (time : ℕ) (book : Book) → whole_told (pass_visit time) book ≡ passed time book
 whole_passed time [] = refl
 whole_passed time (e ∷ book) = ap (λ (t : List (ℕ × Event)). (pass_visit time e.0 e.1).turn.told ++ t) (whole_passed time book)
-
-pub whole_left : (place session : ℕ) (book : Book) → whole_state (leave_visit place session) book ≡ left place session book
-whole_left place session book = refl
 
 pub whole_left_told : (place session : ℕ) (book : Book) → whole_told (leave_visit place session) book ≡ left_told place session book
 whole_left_told place session [] = refl
@@ -163,18 +151,6 @@ whole_left_told place session (e ∷ book) =
     ap (λ (t : List (ℕ × Event)). (leave_visit place session e.0 e.1).turn.told ++ t) (whole_left_told place session book)
 
 -- ---- the names stay
-visited_names : (f : Visit) (book : Book) (name : List ℕ) (r : Option Resource) → IsStrictlySortedBy bytes_cmp (keys_of book) → found book name ≡ r
-    → keys_of (visited_at f book name r).state ≡ keys_of book
-visited_names f book name None sorted h = refl
-visited_names f book name (Some r) sorted h = names_with book name r (f name r).state sorted h
-
-pub walked_names : (f : Visit) (names : List (List ℕ)) (book : Book) → IsStrictlySortedBy bytes_cmp (keys_of book)
-    → keys_of (walked_state f names book) ≡ keys_of book
-walked_names f [] book sorted = refl
-walked_names f (n ∷ names) book sorted =
-    let stay : keys_of (visited f book n).state ≡ keys_of book = visited_names f book n (found book n) sorted refl in
-    let P : List (List ℕ) → Type 0 = λ ks. IsStrictlySortedBy bytes_cmp ks in
-    walked_names f names (visited f book n).state (subst P (sym stay) sorted) ∙ stay
 
 pub whole_names : (f : Visit) (book : Book) → keys_of (whole_state f book) ≡ keys_of book
 whole_names f [] = refl

@@ -10,3 +10,6 @@ mod slot;
 mod visits;
 
 pub use crate::book::Book;
+
+#[cfg(test)]
+mod tests;
