@@ -1,5 +1,5 @@
 -- The run of a script that was taken is faithful, since each of its calls is quiet.
-use Rattle.std.proofs.Common.{◌≡◌, ℕ, ◌+◌, Bool, true, false, ◌&&◌, cond, nat_lt, List, [], ◌∷◌, refl, ap, subst, sym}
+use Rattle.std.proofs.Common.{◌≡◌, ℕ, ◌+◌, Bool, true, false, ◌&&◌, cond, nat_lt, List, [], ◌∷◌, refl, subst, sym}
 use Rattle.std.specs.Prelude.{Option, Some, None, IfSome, Result, Ok, Err, IfOk, IsOkAnd, IsTrue}
 use Rattle.std.specs.List.{list_all}
 use Rattle.ax_types.specs.declared.ops.Op.{Op}

@@ -1,10 +1,9 @@
 -- What the program answers: to its words, to its input, and what it writes.
-use Rattle.std.specs.Prelude.{ℕ, ◌+◌, ◌-◌, ◌==◌, ◌&&◌, Bool, true, false, ◌||◌, nat_eq, if◌then◌else◌, List, [], ◌∷◌, count_by, Option, Some, None, Result, Ok, Err}
+use Rattle.std.specs.Prelude.{ℕ, ◌+◌, ◌-◌, ◌==◌, ◌&&◌, Bool, true, false, ◌||◌, nat_eq, if◌then◌else◌, List, [], ◌∷◌, count_by, Option, Some, Result, Ok, Err}
 use Rattle.ax_types.specs.declared.scripts.Command.{Command}
 use Rattle.ax_types.specs.declared.scripts.Command.TheVariants as command
 use Rattle.ax_types.specs.declared.scripts.Script.{Script}
 use Rattle.ax_types.specs.declared.scripts.RunEnd.TheVariants as run_end
-use Rattle.ax_types.specs.declared.statuses.Why.{Why}
 use Rattle.ax_types.specs.declared.statuses.Why.TheVariants as why
 use Rattle.spec_script.specs.Scripts.{Refusal, read_script_of}
 use Rattle.spec_words.specs.CommandLine.{command_of_words}

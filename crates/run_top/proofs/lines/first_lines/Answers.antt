@@ -1,5 +1,5 @@
 -- Where no line is left, no byte is.
-use Rattle.std.proofs.Common.{◌≡◌, ℕ, List, [], ◌∷◌, ◌++◌, refl, ap, sym, ◌∙◌, take, drop}
+use Rattle.std.proofs.Common.{◌≡◌, ℕ, List, [], ◌∷◌, ◌++◌, refl, sym, take, drop}
 use Rattle.std.proofs.lemmas.List.{append-nil}
 use Rattle.run_top.specs.Answers as spec
 use Rattle.run_top.proofs.lines.first_lines.Goals as goal

@@ -1,4 +1,4 @@
-use Rattle.std.proofs.Common.{◌≡◌, ◌+◌, ◌≤◌, ◌++◌, false, map, drop, length}
+use Rattle.std.proofs.Common.{◌≡◌, ◌+◌, ◌++◌, false, map, drop}
 use Rattle.spec_claims.specs.Transcript.{transcript}
 use Rattle.spec_single.specs.Run.{calls_shown, call_act, run_items, run_history}
 use Rattle.run_top.specs.Runs.{call_of}
