@@ -1,5 +1,5 @@
 -- The book: every resource by its name. `turn` is one command, `pass` lets lives end, `acted` is one act of a history.
-use Rattle.std.specs.Prelude.{ℕ, List, [], ◌∷◌, ◌++◌, Option, Some, None, if◌then◌else◌, map, ℤ}
+use Rattle.std.specs.Prelude.{ℕ, List, [], ◌∷◌, ◌++◌, Option, Some, None, if◌then◌else◌, map}
 use Rattle.ax_types.specs.declared.ops.Op.{Op}
 use Rattle.ax_types.specs.declared.ops.Op.TheVariants as op
 use Rattle.ax_types.specs.declared.ops.Query.{Query}
@@ -11,7 +11,6 @@ use Rattle.ax_types.specs.declared.entries.Act.TheVariants as act
 use Rattle.ax_types.specs.declared.replies.Reply.{Reply}
 use Rattle.ax_types.specs.declared.replies.Reply.TheVariants as reply
 use Rattle.ax_types.specs.declared.replies.Event.{Event}
-use Rattle.ax_types.specs.declared.replies.Turn.{Turn}
 use Rattle.spec_book.specs.Limits.{is_full}
 use Rattle.spec_book.specs.Dict.{found, with_entry, without_session}
 use Rattle.spec_book.specs.Resources.{Resource, AMap, AValue, ALong, ALock, AGroup, ASet, AQueue, AMultimap, ATopic, new_resource, Acted, replied, told_too}

@@ -1,5 +1,5 @@
 -- Sets, queues, multimaps and topics.
-use Rattle.std.specs.Prelude.{ℕ, ◌-◌, Bool, true, false, not, if◌then◌else◌, List, [], ◌∷◌, ◌++◌, length, Option, Some, None, pos, filter}
+use Rattle.std.specs.Prelude.{ℕ, Bool, not, if◌then◌else◌, List, [], ◌∷◌, ◌++◌, length, pos, filter}
 use Rattle.std.specs.declared.cmp.Ordering.{Ordering}
 use Rattle.std.specs.Ordering.{then_cmp, on, is_eq}
 use Rattle.std.specs.List.{list_any}

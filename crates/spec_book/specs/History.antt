@@ -1,5 +1,5 @@
 -- Histories: one list of acts with their log times, place 1 first, and the fold over it.
-use Rattle.std.specs.Prelude.{ℕ, zero, suc, ◌-◌, ◌+◌, ◌≤◌, ◌<◌, ◌≡◌, Bool, true, false, not, ◌&&◌, nat_le, nat_eq, if◌then◌else◌, IsTrue, List, [], ◌∷◌, ◌++◌, length, take, Option, Some, None, map, filter, option_map}
+use Rattle.std.specs.Prelude.{ℕ, zero, suc, ◌-◌, ◌+◌, ◌≤◌, ◌≡◌, Bool, true, false, not, ◌&&◌, nat_le, nat_eq, if◌then◌else◌, IsTrue, List, [], ◌∷◌, ◌++◌, length, take, Option, Some, None, map, filter, option_map}
 use Rattle.std.specs.List.{list_any}
 use Rattle.ax_types.specs.Places.{at_place}
 use Rattle.ax_types.specs.declared.ops.Op.{Op}
@@ -8,7 +8,6 @@ use Rattle.ax_types.specs.declared.entries.Act.TheVariants as act
 use Rattle.ax_types.specs.declared.replies.Reply.{Reply}
 use Rattle.ax_types.specs.declared.replies.Event.{Event}
 use Rattle.ax_types.specs.declared.replies.Turn.{Turn}
-use Rattle.spec_book.specs.Resources.{Acted}
 use Rattle.spec_book.specs.Book.{Book, acted}
 
 -- the acts by place, each with its log time

@@ -1,5 +1,5 @@
 -- Maps, whose entries may have a life in log time.
-use Rattle.std.specs.Prelude.{ℕ, ◌+◌, Bool, true, false, not, if◌then◌else◌, nat_le, List, [], ◌∷◌, ◌++◌, length, Option, Some, None, is_some, pos, map, filter, flat_map}
+use Rattle.std.specs.Prelude.{ℕ, ◌+◌, Bool, false, not, if◌then◌else◌, nat_le, List, [], length, Option, Some, None, is_some, pos, filter, flat_map}
 use Rattle.ax_types.specs.declared.ops.MapOp.{MapOp}
 use Rattle.ax_types.specs.declared.ops.MapOp.TheVariants as op
 use Rattle.ax_types.specs.declared.ops.MapQuery.{MapQuery}

@@ -1,5 +1,5 @@
 -- What a resource holds, by its kind, and what an act at a resource gives.
-use Rattle.std.specs.Prelude.{ℕ, List, [], ◌∷◌, Option, None, ℤ, pos, map}
+use Rattle.std.specs.Prelude.{ℕ, List, [], Option, None, ℤ, pos, map}
 use Rattle.ax_types.specs.declared.ops.Kind.{Kind}
 use Rattle.ax_types.specs.declared.ops.Kind.TheVariants as kind
 use Rattle.ax_types.specs.declared.replies.Reply.{Reply}

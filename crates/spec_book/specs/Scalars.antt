@@ -1,6 +1,6 @@
 -- Values and longs: what each operation replies, changes and tells, and what a query is answered.
-use Rattle.std.specs.Prelude.{ℕ, Bool, true, false, if◌then◌else◌, ◌&&◌, nat_lt, ◌^◌, List, [], ◌∷◌, Option, Some, None, ℤ, pos, negsuc, ◌+ℤ◌}
-use Rattle.std.specs.Ordering.{nat_cmp, int_eq, is_eq}
+use Rattle.std.specs.Prelude.{ℕ, Bool, false, if◌then◌else◌, nat_lt, ◌^◌, List, Option, Some, None, ℤ, pos, negsuc, ◌+ℤ◌}
+use Rattle.std.specs.Ordering.{int_eq}
 use Rattle.std.specs.BTreeMap.{is_at}
 use Rattle.ax_types.specs.declared.ops.ValueOp.{ValueOp}
 use Rattle.ax_types.specs.declared.ops.ValueOp.TheVariants as op

@@ -1,5 +1,5 @@
 -- A queue hands each offered text to at most one poll, in order.
-use Rattle.std.specs.Prelude.{ℕ, ◌≡◌, ◌<◌, ◌+◌, Bool, true, false, nat_lt, if◌then◌else◌, List, [], ◌∷◌, Option, Some, None, flat_map, count_by}
+use Rattle.std.specs.Prelude.{ℕ, ◌≡◌, ◌<◌, ◌+◌, Bool, true, false, nat_lt, if◌then◌else◌, List, [], ◌∷◌, Some, flat_map, count_by}
 use Rattle.std.specs.BTreeMap.{is_at}
 use Rattle.ax_types.specs.Places.{at_place}
 use Rattle.ax_types.specs.declared.ops.Op.TheVariants as op
@@ -11,7 +11,6 @@ use Rattle.ax_types.specs.declared.entries.Act.TheVariants as act
 use Rattle.ax_types.specs.declared.items.Item.{Item}
 use Rattle.ax_types.specs.declared.items.Item.TheVariants as item
 use Rattle.spec_book.specs.Dict.{bytes_cmp}
-use Rattle.spec_book.specs.Resources.{Acted}
 use Rattle.spec_book.specs.Book.{Book, acted}
 use Rattle.spec_book.specs.History.{History}
 use Rattle.spec_claims.specs.Transcript.{EachItem}

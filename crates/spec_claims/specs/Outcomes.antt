@@ -1,5 +1,5 @@
 -- Calls and their outcomes: numbers, order, and what becomes of calls when a session ends.
-use Rattle.std.specs.Prelude.{ℕ, ◌≡◌, ◌<◌, ◌+◌, Bool, true, false, nat_eq, if◌then◌else◌, List, [], ◌∷◌, ◌++◌, Option, Some, None, map, reverse, length, count_by}
+use Rattle.std.specs.Prelude.{ℕ, ◌≡◌, ◌<◌, ◌+◌, Bool, false, nat_eq, if◌then◌else◌, List, [], ◌∷◌, ◌++◌, Option, Some, None, map, reverse, length, count_by}
 use Rattle.std.specs.List.{AllByRecursion}
 use Rattle.ax_types.specs.Places.{at_place}
 use Rattle.ax_types.specs.declared.entries.Act.{Act}
@@ -8,7 +8,6 @@ use Rattle.ax_types.specs.declared.replies.How.{How}
 use Rattle.ax_types.specs.declared.replies.How.TheVariants as how
 use Rattle.ax_types.specs.declared.ops.Op.{Op}
 use Rattle.ax_types.specs.declared.ops.Query.{Query}
-use Rattle.ax_types.specs.declared.ops.Level.{Level}
 use Rattle.ax_types.specs.declared.ops.WindowCall.{WindowCall}
 use Rattle.ax_types.specs.declared.ops.WindowCall.TheVariants as call
 use Rattle.ax_types.specs.declared.items.Item.{Item}

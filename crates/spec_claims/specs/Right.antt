@@ -1,5 +1,5 @@
 -- What each item says is right by the history.
-use Rattle.std.specs.Prelude.{ℕ, ◌≡◌, ◌<◌, ◌≤◌, ◌+◌, Bool, true, false, nat_eq, IsTrue, List, [], ◌∷◌, Option, Some, None, option_map, count_by}
+use Rattle.std.specs.Prelude.{ℕ, ◌≡◌, ◌<◌, ◌≤◌, ◌+◌, Bool, false, nat_eq, IsTrue, List, Option, Some, None, option_map, count_by}
 use Rattle.ax_types.specs.Places.{at_place}
 use Rattle.ax_types.specs.declared.entries.Act.{Act}
 use Rattle.ax_types.specs.declared.entries.Act.TheVariants as act

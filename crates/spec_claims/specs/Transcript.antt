@@ -1,5 +1,5 @@
 -- A transcript: the items of a run, step by step. Claims about it speak of one item and of the items above it.
-use Rattle.std.specs.Prelude.{ℕ, suc, max, ◌≡◌, ◌⊎◌, Bool, true, false, not, ◌&&◌, ◌||◌, nat_eq, nat_le, nat_lt, if◌then◌else◌, List, [], ◌∷◌, ◌++◌, Option, Some, None, map, filter, flat_map, reverse, length, count_by}
+use Rattle.std.specs.Prelude.{ℕ, max, ◌≡◌, ◌⊎◌, Bool, true, false, not, ◌&&◌, nat_eq, nat_le, nat_lt, if◌then◌else◌, List, [], ◌∷◌, Option, Some, None, filter, flat_map, count_by}
 use Rattle.std.specs.List.{list_any}
 use Rattle.ax_types.specs.declared.ops.WindowCall.{WindowCall}
 use Rattle.ax_types.specs.declared.ops.WindowCall.TheVariants as call

@@ -1,6 +1,6 @@
 -- The narrow form: a cluster of one node and one client, `elect 1`, `open 1 1`, `flush`, and then up to 1,000 calls of client 1
 -- that tell no event to the one session, each followed by `flush`.
-use Rattle.std.specs.Prelude.{ℕ, ◌+◌, Bool, true, false, ◌&&◌, nat_eq, nat_lt, if◌then◌else◌, List, [], ◌∷◌}
+use Rattle.std.specs.Prelude.{ℕ, ◌+◌, Bool, true, false, ◌&&◌, nat_lt, if◌then◌else◌, List, [], ◌∷◌}
 use Rattle.ax_types.specs.declared.ops.Op.{Op}
 use Rattle.ax_types.specs.declared.ops.Op.TheVariants as op
 use Rattle.ax_types.specs.declared.ops.MapOp.{MapOp}
@@ -13,7 +13,6 @@ use Rattle.ax_types.specs.declared.ops.GroupOp.{GroupOp}
 use Rattle.ax_types.specs.declared.ops.GroupOp.TheVariants as group_op
 use Rattle.ax_types.specs.declared.ops.TopicOp.{TopicOp}
 use Rattle.ax_types.specs.declared.ops.TopicOp.TheVariants as topic_op
-use Rattle.ax_types.specs.declared.steps.Step.{Step}
 use Rattle.ax_types.specs.declared.steps.Step.TheVariants as step
 use Rattle.ax_types.specs.declared.scripts.Line.{Line}
 use Rattle.ax_types.specs.declared.scripts.Line.TheVariants as line
