@@ -1,5 +1,5 @@
 -- The forms of names, keys and texts, as tests on their bytes, and how nodes and clients are written.
-use Rattle.std.specs.Prelude.{ℕ, Bool, ◌&&◌, ◌||◌, nat_le, nat_eq, List, [], ◌∷◌, length}
+use Rattle.std.specs.Prelude.{ℕ, Bool, ◌&&◌, ◌||◌, nat_le, nat_eq, List, length}
 use Rattle.std.specs.List.{list_all}
 
 -- a byte of `a-z 0-9 - _`
