@@ -9,7 +9,7 @@ pub enum WatchKind {
 }
 
 /// One step of a script.
-#[derive(Debug, PartialEq, Drop)]
+#[derive(Clone, Debug, PartialEq, Drop)]
 pub enum Step {
     Elect {
         node: NodeId,
@@ -85,63 +85,7 @@ pub enum Step {
 
 impl Duplicate for Step {
     fn copy(&self) -> Result<Step, NoMemory> {
-        Ok(match self {
-            Step::Elect { node } => Step::Elect { node: *node },
-            Step::Beat { node } => Step::Beat { node: *node },
-            Step::Crash { node } => Step::Crash { node: *node },
-            Step::Start { node } => Step::Start { node: *node },
-            Step::Clock { node, time } => Step::Clock {
-                node: *node,
-                time: *time,
-            },
-            Step::Expire { node } => Step::Expire { node: *node },
-            Step::Cut { one, other } => Step::Cut {
-                one: *one,
-                other: *other,
-            },
-            Step::Join { one, other } => Step::Join {
-                one: *one,
-                other: *other,
-            },
-            Step::Deliver { number } => Step::Deliver { number: *number },
-            Step::Drop { number } => Step::Drop { number: *number },
-            Step::Short { number, bytes } => Step::Short {
-                number: *number,
-                bytes: *bytes,
-            },
-            Step::List => Step::List,
-            Step::Open { client, node } => Step::Open {
-                client: *client,
-                node: *node,
-            },
-            Step::Switch { client, node } => Step::Switch {
-                client: *client,
-                node: *node,
-            },
-            Step::Resend { client } => Step::Resend { client: *client },
-            Step::Keep { client } => Step::Keep { client: *client },
-            Step::Close { client } => Step::Close { client: *client },
-            Step::Watch { client, kind } => Step::Watch {
-                client: *client,
-                kind: *kind,
-            },
-            Step::Call { client, name, op } => Step::Call {
-                client: *client,
-                name: name.copy()?,
-                op: op.copy()?,
-            },
-            Step::Query {
-                client,
-                level,
-                name,
-                query,
-            } => Step::Query {
-                client: *client,
-                level: *level,
-                name: name.copy()?,
-                query: query.copy()?,
-            },
-        })
+        Ok(self.clone()?)
     }
 }
 
