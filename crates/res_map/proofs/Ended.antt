@@ -1,8 +1,7 @@
 -- The keys whose lives have ended are those of the index whose times have passed.
-use Rattle.std.proofs.Common.{◌≡◌, ℕ, ◌+◌, ◌≤◌, ◌<◌, ◌∙◌, refl, sym, ap, arith, Bool, true, false, cond, not, nat_eq, nat_le, ◌&&◌, ◌||◌, List, [], ◌∷◌, ◌++◌, map, Option, Some, None, filter, is_some}
-use Rattle.std.specs.declared.cmp.Ordering.{Ordering}
-use Rattle.std.specs.declared.cmp.Ordering.TheVariants.{Less, Equal, Greater}
-use Rattle.std.specs.Ordering.{nat_cmp, is_eq, is_gt, ordering_then, eq_by_cmp}
+use Rattle.std.proofs.Common.{◌≡◌, ℕ, ◌+◌, ◌≤◌, ◌∙◌, refl, sym, ap, arith, Bool, true, false, nat_le, ◌&&◌, ◌||◌, List, [], ◌∷◌, Option, Some, None, filter, is_some}
+use Rattle.std.specs.declared.cmp.Ordering.TheVariants.{Less}
+use Rattle.std.specs.Ordering.{nat_cmp, is_eq, ordering_then}
 use Rattle.std.specs.Prelude.{Result, Ok, Err, IfOk}
 use Rattle.std.specs.Cmp.{nat_cmp_total}
 use Rattle.std.specs.Cmp.Lexicographic.{nat_list_cmp_total}
@@ -12,9 +11,8 @@ use Rattle.std.specs.Map.{keys_of, lookup}
 use Rattle.std.specs.BTreeMap.{is_at}
 use Rattle.std.proofs.lemmas.Grind.{common_steps}
 use Rattle.std.proofs.lemmas.Cmp.{eq_by_cmp_equiv}
-use Rattle.std.proofs.lemmas.List.Folds.{list_any-append}
 use Rattle.std.proofs.lemmas.Bool.{leb-true, le-leb}
-use Rattle.std.proofs.lemmas.Map.Keys.{sorted_head, sorted_tail, IsDistinct-from_sorted}
+use Rattle.std.proofs.lemmas.Map.Keys.{IsDistinct-from_sorted}
 use Rattle.std.proofs.lemmas.Map.Entries.{option_filter, lookup-filter-values}
 use Rattle.std.proofs.lemmas.Map.Made.{is_some-lookup}
 use Rattle.std.proofs.lemmas.Map.Lookups.{exact_bytes, exact_unsigned, btree_set_from_contains}
@@ -22,8 +20,8 @@ use Rattle.std.proofs.lemmas.Map.Views.{tells_apart}
 use Rattle.spec_book.specs.Dict.{bytes_cmp, found}
 use Rattle.spec_book.specs.Resources.{Span, MapItem}
 use Rattle.spec_book.specs.MapTurn.{life_ended}
-use Rattle.res_map.specs.Deadlines.{deadline_cmp, has_passed, has_deadline, is_end, item_end, end_of, IsIndexed, ended_keys}
-use Rattle.res_map.proofs.Index.{same_key, is_eq-ordering_then, keys_equiv}
+use Rattle.res_map.specs.Deadlines.{deadline_cmp, has_passed, has_deadline, is_end, item_end, IsIndexed, ended_keys}
+use Rattle.res_map.proofs.Index.{is_eq-ordering_then, keys_equiv}
 
 -- ---- keys in order, after a filter
 pub AllByRecursion-keys : {X : Type 0} (P : List ℕ → Type 0) (p : List ℕ × X → Bool) (es : List (List ℕ × X)) → AllByRecursion P (keys_of es) → AllByRecursion P (keys_of (filter p es))

@@ -1,11 +1,11 @@
 -- The first time of the index is the first at which the life of an entry ends.
-use Rattle.std.proofs.Common.{◌≡◌, ℕ, ◌+◌, ◌≤◌, ◌<◌, ◌∙◌, min, refl, sym, ap, arith, Bool, true, false, cond, ◌||◌, List, [], ◌∷◌, Option, Some, None}
+use Rattle.std.proofs.Common.{◌≡◌, ℕ, ◌≤◌, ◌∙◌, min, refl, sym, ap, arith, Bool, true, false, cond, ◌||◌, List, [], ◌∷◌, Option, Some, None}
 use Rattle.std.specs.Prelude.{IfSome}
-use Rattle.std.specs.Ordering.{nat_cmp, eq_by_cmp}
+use Rattle.std.specs.Ordering.{nat_cmp}
 use Rattle.std.specs.Cmp.{nat_cmp_total}
-use Rattle.std.specs.List.{list_any, AllByRecursion, All}
+use Rattle.std.specs.List.{AllByRecursion, All}
 use Rattle.std.specs.List.Sorted.{IsStrictlySortedBy}
-use Rattle.std.specs.Map.{keys_of, values_of, lookup}
+use Rattle.std.specs.Map.{keys_of, values_of}
 use Rattle.std.specs.BTreeMap.{is_at}
 use Rattle.std.proofs.lemmas.Cmp.{eq_by_cmp_equiv}
 use Rattle.std.proofs.lemmas.List.Elements.{recursion_from_All}
@@ -13,7 +13,7 @@ use Rattle.std.proofs.lemmas.Map.Keys.{IsDistinct-from_sorted}
 use Rattle.std.proofs.lemmas.Map.Lookups.{exact_unsigned}
 use Rattle.std.proofs.lemmas.Map.Views.{tells_apart, All-values_from_lookup}
 use Rattle.spec_book.specs.Dict.{bytes_cmp, found}
-use Rattle.spec_book.specs.Resources.{Span, MapItem}
+use Rattle.spec_book.specs.Resources.{MapItem}
 use Rattle.res_map.specs.Deadlines.{deadline_cmp, has_deadline, is_end, item_end, end_of, IsIndexed, earlier, first_end, first_time}
 use Rattle.res_map.proofs.Index.{keys_equiv, is_eq-ordering_then, key_at_itself}
 use Rattle.res_map.proofs.Ended.{parts_true, deadline_at_itself}

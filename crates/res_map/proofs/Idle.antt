@@ -1,5 +1,5 @@
 -- Before the first time at which a life ends, passing changes nothing and tells nobody.
-use Rattle.std.proofs.Common.{◌≡◌, ℕ, ◌+◌, ◌≤◌, ◌<◌, ◌∙◌, min, refl, ap, arith, Bool, true, false, cond, not, nat_le, List, [], ◌∷◌, Option, Some, None, filter}
+use Rattle.std.proofs.Common.{◌≡◌, ℕ, ◌<◌, refl, ap, arith, false, not, List, [], ◌∷◌, Option, Some, None, filter}
 use Rattle.std.specs.Prelude.{IfSome}
 use Rattle.std.proofs.lemmas.Grind.{common_steps}
 use Rattle.spec_book.specs.Resources.{Span, MapItem, MapState}

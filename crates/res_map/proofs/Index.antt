@@ -1,5 +1,5 @@
 -- The index stays in step with the entries.
-use Rattle.std.proofs.Common.{◌≡◌, ℕ, ◌+◌, ◌∙◌, refl, sym, ap, subst, arith, Bool, true, false, cond, not, nat_eq, if◌then◌else◌, ◌&&◌, List, [], ◌∷◌, Option, Some, None, ◌⊎◌, inl, inr}
+use Rattle.std.proofs.Common.{◌≡◌, ℕ, ◌∙◌, refl, sym, ap, Bool, true, false, cond, not, nat_eq, ◌&&◌, List, Option, Some, None}
 use Rattle.std.specs.declared.cmp.Ordering.{Ordering}
 use Rattle.std.specs.declared.cmp.Ordering.TheVariants.{Less, Equal, Greater}
 use Rattle.std.specs.Ordering.{nat_cmp, is_eq, eq_by_cmp, ordering_then}
@@ -7,13 +7,12 @@ use Rattle.std.specs.Cmp.{IsEquivalence}
 use Rattle.std.specs.Cmp.Lexicographic.{nat_list_cmp_total}
 use Rattle.std.proofs.lemmas.Cmp.{eq_by_cmp_equiv}
 use Rattle.std.specs.BTreeMap.{is_at}
-use Rattle.std.proofs.lemmas.Grind.{common_steps}
 use Rattle.std.proofs.lemmas.Map.Lookups.{exact_bytes, exact_unsigned}
 use Rattle.std.proofs.lemmas.Map.Views.{tells_apart, exact_unsigned_eq}
 use Rattle.std.proofs.lemmas.Bool.{eq-eqb}
 use Rattle.spec_book.specs.Dict.{bytes_cmp, found}
-use Rattle.spec_book.specs.Resources.{Span, MapItem}
-use Rattle.res_map.specs.Deadlines.{end_of, item_end, is_end, deadline_cmp, has_deadline, IsIndexed, is_deadline, SetsDeadline, replaced_end}
+use Rattle.spec_book.specs.Resources.{MapItem}
+use Rattle.res_map.specs.Deadlines.{end_of, item_end, is_end, has_deadline, IsIndexed, is_deadline, SetsDeadline, replaced_end}
 
 pub is_eq-ordering_then : (a b : Ordering) → is_eq (ordering_then a b) ≡ (is_eq a && is_eq b)
 is_eq-ordering_then Less b = refl

@@ -1,4 +1,4 @@
-use Rattle.std.proofs.Common.{◌≡◌, true, false, List, [], ap, sym, ◌∙◌, map, string_bytes}
+use Rattle.std.proofs.Common.{◌≡◌, List, [], ap, sym, ◌∙◌, map, string_bytes}
 use Rattle.clap.specs.Faults.{fault_of}
 use Rattle.clap.specs.Kinds.{HasKind}
 use Rattle.clap.specs.Simple.{App, app_of, matches_of}

@@ -1,5 +1,5 @@
 -- What is written to the texts of the key shows in the pairs; a key whose texts are gone has no pair.
-use Rattle.std.proofs.Common.{◌≡◌, ◌∙◌, sym, ap, ℕ, List, rules}
+use Rattle.std.proofs.Common.{◌∙◌, sym, ap, ℕ, List, rules}
 use Rattle.std.specs.BTreeSet.{BTreeSet}
 use Rattle.std.specs.BTreeMap.{is_at}
 use Rattle.spec_book.specs.Dict.{bytes_cmp}

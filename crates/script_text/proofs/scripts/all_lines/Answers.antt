@@ -1,8 +1,7 @@
 -- A last line that is no cluster line is refused, so a line comes behind each other one.
-use Rattle.std.proofs.Common.{◌≡◌, ℕ, List, Bool, true, ap, sym, ◌∙◌}
-use Rattle.std.specs.Prelude.{None, Ok, Err, Result, Option, option_map}
-use Rattle.ax_types.specs.declared.statuses.Why.{Why}
-use Rattle.spec_script.specs.Scripts.{Draft as Meant, Place, after_first, is_empty}
+use Rattle.std.proofs.Common.{◌≡◌, ℕ, List, true, ap, ◌∙◌}
+use Rattle.std.specs.Prelude.{None, Ok, option_map}
+use Rattle.spec_script.specs.Scripts.{Place, after_first, is_empty}
 use Rattle.spec_script.proofs.LineLemmas.{after_first-last}
 use Rattle.script_text.specs.Answers.{lines_in, place_behind}
 use Rattle.script_text.specs.Drafts.{draft_of}

@@ -1,4 +1,4 @@
-use Rattle.std.proofs.Common.{◌≡◌, ℕ, ◌≤◌, ◌+◌, List, arith, length, ap, sym, ◌∙◌, subst, nat_lt}
+use Rattle.std.proofs.Common.{◌≡◌, ℕ, List, arith, length, ap, sym, ◌∙◌, subst, nat_lt}
 use Rattle.std.specs.Prelude.{None, Result}
 use Rattle.std.specs.List.{count_by, slice_split}
 use Rattle.std.proofs.lemmas.List.Splits.{length-slice_split}

@@ -1,5 +1,5 @@
 -- A digit that makes no number, or one too great, ends the reading; at the end all bytes are read.
-use Rattle.std.proofs.Common.{◌≡◌, ◌<◌, ◌^◌, ◌∷◌, [], length, drop, get_or, drop-cons, arith, ap, sym, ◌∙◌, suc, ℕ, List, None}
+use Rattle.std.proofs.Common.{◌≡◌, ◌<◌, ◌∷◌, [], length, drop, get_or, drop-cons, arith, ap, sym, ◌∙◌, suc, ℕ, List, None}
 use Rattle.spec_text.specs.Numbers.{number_on}
 use Rattle.text_words.specs.Fitting.{fitting}
 use Rattle.text_words.proofs.NumberLemmas.{fitting-more}

@@ -1,4 +1,4 @@
-use Rattle.std.proofs.Common.{◌≡◌, ◌∙◌, sym, ap, ℕ, List, Option}
+use Rattle.std.proofs.Common.{◌∙◌, sym, ap, ℕ, List, Option}
 use Rattle.std.specs.BTreeSet.{BTreeSet}
 use Rattle.spec_book.specs.Dict.{has_text}
 use Rattle.res_coll.proofs.Grouped.{has_pair-pairs_in, texts_of}

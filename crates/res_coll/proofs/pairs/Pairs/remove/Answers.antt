@@ -1,4 +1,4 @@
-use Rattle.std.proofs.Common.{◌≡◌, ◌∙◌, ◌+◌, ap, length, arith, ℕ, List}
+use Rattle.std.proofs.Common.{◌≡◌, ◌+◌, ap, length, arith, ℕ, List}
 use Rattle.std.specs.Set.{remove_key}
 use Rattle.std.specs.BTreeMap.{is_at}
 use Rattle.std.proofs.lemmas.Map.Made.{length-remove_key}

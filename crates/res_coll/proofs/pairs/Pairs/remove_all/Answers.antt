@@ -1,4 +1,4 @@
-use Rattle.std.proofs.Common.{◌≡◌, ◌∙◌, ◌+◌, sym, ap, length, Some, None, arith, ℕ, List}
+use Rattle.std.proofs.Common.{◌≡◌, ◌∙◌, sym, ap, length, Some, None, arith, ℕ, List}
 use Rattle.std.specs.BTreeSet.{BTreeSet}
 use Rattle.spec_book.specs.Collections.{pairs_of, without_pairs}
 use Rattle.res_coll.specs.Pairs.{pairs_in}

@@ -1,5 +1,3 @@
-use Rattle.std.proofs.Common.{◌<◌}
-use Rattle.std.specs.Prelude.{IfSome}
 use Rattle.res_map.proofs.Idle.{map_pass-idle, map_passed-idle}
 use Rattle.res_map.proofs.map.MapBox.next_deadline.Goals as goal
 

@@ -1,4 +1,4 @@
-use Rattle.std.proofs.Common.{◌≡◌, ◌∙◌, ℕ, List, ap, refl, filter}
+use Rattle.std.proofs.Common.{◌∙◌, ℕ, List, ap, refl, filter}
 use Rattle.spec_book.specs.MapTurn.{life_ended}
 use Rattle.spec_book.specs.Resources.{MapItem}
 use Rattle.res_map.specs.Told.{tell_keys}
