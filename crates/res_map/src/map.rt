@@ -144,11 +144,7 @@ impl MapBox {
         ensures after { OnOk result (self.new ≡ (set_item name.now key.now item reply self.old).state) }
         ensures err { OnErr result (self.new ≡ self.old) }
     {
-        let told = self.listeners.tell(&Event::Changed {
-            name: name.copy()?,
-            key: key.copy()?,
-            text: item.text().copy()?,
-        })?;
+        let told = self.tell_changed(name, key, item.text())?;
         self.entries.set(key.copy()?, item)?;
         Ok(Turn { reply, told })
     }
@@ -221,10 +217,8 @@ impl MapBox {
             None => Ok(self.quiet(Reply::Nothing)),
             Some(old) => {
                 let reply = Reply::Found(old.text().copy()?);
-                let told = self.listeners.tell(&Event::Removed {
-                    name: name.copy()?,
-                    key: key.copy()?,
-                })?;
+                let mut told = List::new(self.alloc);
+                self.tell_removed(&mut told, name, key)?;
                 self.entries.remove(key.copy()?);
                 Ok(Turn { reply, told })
             }
@@ -255,6 +249,25 @@ impl MapBox {
         Ok(self.quiet(reply))
     }
 
+    /// What the listeners are told where a text comes to a key. Nothing is copied where nobody listens.
+    fn tell_changed(
+        &self,
+        name: &Name,
+        key: &Key,
+        text: &Text,
+    ) -> Result<List<(u64, Event)>, NoMemory>
+        ensures { IfOk result (λ told. told ≡ tell self.now.listeners (Event.Changed name.now key.now text.now)) }
+    {
+        if self.listeners.is_empty() {
+            return Ok(List::new(self.alloc));
+        }
+        self.listeners.tell(&Event::Changed {
+            name: name.copy()?,
+            key: key.copy()?,
+            text: text.copy()?,
+        })
+    }
+
     /// What the listeners are told where one more key goes, after what is told already.
     fn tell_removed(
         &self,
@@ -264,6 +277,9 @@ impl MapBox {
     ) -> Result<(), NoMemory>
         ensures { OnOk result (told.new ≡ told.old ++ tell self.now.listeners (Event.Removed name.now key.now)) }
     {
+        if self.listeners.is_empty() {
+            return Ok(());
+        }
         let event = Event::Removed {
             name: name.copy()?,
             key: key.copy()?,

@@ -95,6 +95,9 @@ impl ValueBox {
     fn tell_set(&self, name: &Name, text: &Text) -> Result<List<(u64, Event)>, NoMemory>
         ensures { IfOk result (λ told. told ≡ tell self.now.listeners (Event.Set name.now text.now)) }
     {
+        if self.listeners.is_empty() {
+            return Ok(List::new(self.alloc));
+        }
         self.listeners.tell(&Event::Set {
             name: name.copy()?,
             text: text.copy()?,
