@@ -14,8 +14,10 @@ use Rattle.std.proofs.lemmas.Map.Lookups.{exact_unsigned}
 use Rattle.std.proofs.lemmas.Map.Views.{tells_apart, All-values_from_lookup}
 use Rattle.spec_book.specs.Dict.{bytes_cmp, found}
 use Rattle.spec_book.specs.Resources.{MapItem}
-use Rattle.res_map.specs.Deadlines.{deadline_cmp, has_deadline, is_end, item_end, end_of, IsIndexed, earlier, first_end, first_time}
-use Rattle.res_map.proofs.Index.{keys_equiv, is_eq-ordering_then, key_at_itself}
+use Rattle.res_deadlines.specs.Deadlines.{deadline_cmp, has_deadline, is_end, first_time}
+use Rattle.res_deadlines.proofs.Index.{is_eq-ordering_then}
+use Rattle.res_map.specs.Lives.{item_end, end_of, IsIndexed, earlier, first_end}
+use Rattle.res_map.proofs.Keys.{keys_equiv, key_at_itself}
 use Rattle.res_map.proofs.Ended.{parts_true, deadline_at_itself}
 
 -- an end of the item is not before the time
@@ -66,22 +68,22 @@ least_end time key (x ∷ es) item a f e = by_key (is_at (bytes_cmp key) x.0) re
 -- ---- entries and their index
 -- the end of an entry stands in the index
 end_in_index : (es : List (List ℕ × MapItem)) (ds : List (ℕ × List ℕ)) → IsIndexed es ds
-    → (key : List ℕ) (item : MapItem) (end : ℕ) → found es key ≡ Some item → end_of item.life ≡ Some end → has_deadline ds end key ≡ true
+    → (key : List ℕ) (item : MapItem) (end : ℕ) → found es key ≡ Some item → end_of item.life ≡ Some end → has_deadline bytes_cmp ds end key ≡ true
 end_in_index es ds in_step key item end f e =
     in_step end key ∙ (ap (λ (v : Option MapItem). is_end (item_end v) end) f ∙ (ap (λ (v : Option ℕ). is_end v end) e ∙ (eq_by_cmp_equiv nat_cmp_total).refl end))
 
 -- a time of the index is not before one that none of it is before
-index_from : (time : ℕ) (ds : List (ℕ × List ℕ)) → AllByRecursion (λ d. time ≤ d.0) ds → (end : ℕ) (key : List ℕ) → has_deadline ds end key ≡ true → time ≤ end
+index_from : (time : ℕ) (ds : List (ℕ × List ℕ)) → AllByRecursion (λ d. time ≤ d.0) ds → (end : ℕ) (key : List ℕ) → has_deadline bytes_cmp ds end key ≡ true → time ≤ end
 index_from time [] a end key h = cc
-index_from time (d ∷ ds) a end key h = by_test (is_at (deadline_cmp (end, key)) d) refl (index_from time ds a.1 end key)
+index_from time (d ∷ ds) a end key h = by_test (is_at (deadline_cmp bytes_cmp (end, key)) d) refl (index_from time ds a.1 end key)
   where
-    by_test : (b : Bool) → is_at (deadline_cmp (end, key)) d ≡ b → (has_deadline ds end key ≡ true → time ≤ end) → time ≤ end
+    by_test : (b : Bool) → is_at (deadline_cmp bytes_cmp (end, key)) d ≡ b → (has_deadline bytes_cmp ds end key ≡ true → time ≤ end) → time ≤ end
     by_test true e more =
         let p = parts_true (is_at (nat_cmp end) d.0) (is_at (bytes_cmp key) d.1) (sym (is_eq-ordering_then (nat_cmp end d.0) (bytes_cmp key d.1)) ∙ e) in
         let same : end ≡ d.0 = tells_apart exact_unsigned end d.0 p.0 in
         let l : time ≤ d.0 = a.0 in
         omega arith
-    by_test false e more = more (sym (ap (λ (b : Bool). b || has_deadline ds end key) e) ∙ h)
+    by_test false e more = more (sym (ap (λ (b : Bool). b || has_deadline bytes_cmp ds end key) e) ∙ h)
 
 -- what holds of each item that is found holds of all items
 all_items : (P : MapItem → Type 0) (es : List (List ℕ × MapItem)) → IsStrictlySortedBy bytes_cmp (keys_of es)
@@ -118,7 +120,7 @@ first_end-index es [] sorted in_step least =
     none (Some time) f = let t : false ≡ true = f time refl in cc
 first_end-index es (d ∷ ds) sorted in_step least =
     let from : AllByRecursion (λ x. d.0 ≤ x.0) (d ∷ ds) = recursion_from_All (λ (x : ℕ × List ℕ). d.0 ≤ x.0) (d ∷ ds) least in
-    let here : has_deadline (d ∷ ds) d.0 d.1 ≡ true = ap (λ (b : Bool). b || has_deadline ds d.0 d.1) (deadline_at_itself d.0 d.1 d refl (key_at_itself d.1)) in
+    let here : has_deadline bytes_cmp (d ∷ ds) d.0 d.1 ≡ true = ap (λ (b : Bool). b || has_deadline bytes_cmp ds d.0 d.1) (deadline_at_itself d.0 d.1 d refl (key_at_itself d.1)) in
     let e = entry_at es d.1 d.0 (sym (in_step d.0 d.1) ∙ here) in
     sym (least_end d.0 d.1 es e.0
     (all_items (EndsFrom d.0) es sorted (λ key item f end g. index_from d.0 (d ∷ ds) from end key (end_in_index es (d ∷ ds) in_step key item end f g)))

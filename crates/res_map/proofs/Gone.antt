@@ -11,9 +11,9 @@ use Rattle.ax_types.specs.declared.replies.Event.TheVariants as event
 use Rattle.spec_book.specs.Dict.{bytes_cmp, without_entry}
 use Rattle.spec_book.specs.Resources.{MapItem, tell}
 use Rattle.spec_book.specs.MapTurn.{life_ended, tell_removed}
-use Rattle.res_map.specs.Deadlines.{ended_keys, without_keys}
+use Rattle.res_map.specs.Lives.{ended_keys, without_keys}
 use Rattle.res_map.specs.Told.{tell_keys}
-use Rattle.res_map.proofs.Index.{key_at_itself, same_key_swapped}
+use Rattle.res_map.proofs.Keys.{key_at_itself, same_key_swapped}
 use Rattle.res_map.proofs.Ended.{AllByRecursion-keys}
 
 -- keys that are not the first one's are taken out of the others

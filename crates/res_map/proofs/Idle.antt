@@ -4,7 +4,7 @@ use Rattle.std.specs.Prelude.{IfSome}
 use Rattle.std.proofs.lemmas.Grind.{common_steps}
 use Rattle.spec_book.specs.Resources.{Span, MapItem, MapState}
 use Rattle.spec_book.specs.MapTurn.{life_ended, map_pass, map_passed, tell_removed}
-use Rattle.res_map.specs.Deadlines.{end_of, earlier, first_end}
+use Rattle.res_map.specs.Lives.{end_of, earlier, first_end}
 
 both_after : (time : ℕ) (a b : Option ℕ) → IfSome (earlier a b) (λ end. time < end) → IfSome a (λ end. time < end) × IfSome b (λ end. time < end)
 both_after time None b h = (tt, h)

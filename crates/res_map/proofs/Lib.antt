@@ -1,5 +1,6 @@
+pub mod Keys
+pub mod Written
 pub mod Index
-pub mod Passed
 pub mod Ended
 pub mod First
 pub mod Gone

@@ -1,25 +1,25 @@
 //! The entries of a map, with the index of their deadlines.
-ghost use Rattle.std.specs.Prelude.{◌≡◌, ℕ, ◌<◌, ◌^◌, List as Items, [], not, length, filter, IfOk, OnOk, OnErr, map};
+ghost use Rattle.std.specs.Prelude.{◌≡◌, ◌<◌, ◌^◌, List as Items, [], None, length, is_some, IfOk, OnOk, OnErr};
 ghost use Rattle.std.specs.Option.{option_copied};
 ghost use Rattle.std.specs.List.Sorted.{IsStrictlySortedBy};
 ghost use Rattle.std.specs.Map.{keys_of};
 ghost use Rattle.spec_book.specs.Dict.{bytes_cmp, found, with_entry, without_entry};
-ghost use Rattle.spec_book.specs.MapTurn.{life_ended};
-ghost use Rattle.res_map.specs.Deadlines.{item_end, first_end, replaced_end, ended_keys, without_keys};
+ghost use Rattle.res_map.specs.Lives.{first_end, ended_keys, without_keys};
 
-use crate::deadlines::Deadlines;
 use crate::items::MapItem;
 use ax_types::{Duplicate, Key, NoMemory};
+use res_deadlines::Deadlines;
 use std::alloc::Global;
 use std::collections::btree_map::Keys;
 use std::collections::{BTreeMap, BTreeSet};
 use std::marker::Model;
+use std::mem;
 
 /// The entries of a map, which contracts see as their list in ascending order of key.
 #[derive(Drop)]
 pub struct Entries {
     items: BTreeMap<Key, MapItem>,
-    deadlines: Deadlines,
+    deadlines: Deadlines<Key>,
 }
 
 impl Model for Entries {
@@ -28,7 +28,7 @@ impl Model for Entries {
     ghost use Rattle.std.specs.List.Sorted.{IsStrictlySortedBy};
     ghost use Rattle.std.specs.Map.{keys_of};
     ghost use Rattle.spec_book.specs.Dict.{bytes_cmp};
-    ghost use Rattle.res_map.specs.Deadlines.{IsIndexed};
+    ghost use Rattle.res_map.specs.Lives.{IsIndexed};
 
     ghost Value = { Items (Items ℕ × ItemValue) };
 
@@ -64,44 +64,58 @@ impl Entries {
         self.items.get(key)
     }
 
-    /// The log time at which the life of a key's entry ends, where it has one.
-    fn end(&self, key: &Key) -> Option<u128>
-        ensures { result ≡ item_end (found self.now key.now) }
+    /// Whether a key has an entry.
+    pub fn contains(&self, key: &Key) -> bool
+        ensures { result ≡ is_some (found self.now key.now) }
     {
-        match self.items.get(key) {
-            Some(item) => item.end(),
-            None => None,
+        self.items.contains_key(key)
+    }
+
+    /// Puts an item at a key. Answers what stood there. The entries are unchanged after want of memory.
+    pub fn set(&mut self, key: &Key, item: MapItem) -> Result<Option<MapItem>, NoMemory>
+        ensures old { IfOk result (λ old. old ≡ found self.old key.now) }
+        ensures ok { OnOk result (self.new ≡ with_entry self.old key.now item) }
+        ensures err { OnErr result (self.new ≡ self.old) }
+    {
+        match self.items.get_mut(key) {
+            Some(there) => {
+                self.deadlines.change(key, there.end(), item.end())?;
+                Ok(Some(mem::replace(there, item)))
+            }
+            None => {
+                self.add(key, item)?;
+                Ok(None)
+            }
         }
     }
 
-    /// Puts an item at a key. The entries are unchanged after want of memory.
-    pub fn set(&mut self, key: Key, item: MapItem) -> Result<(), NoMemory>
-        ensures ok { OnOk result (self.new ≡ with_entry self.old key item) }
+    /// Puts an item at a key that has none. The entries are unchanged after want of memory.
+    fn add(&mut self, key: &Key, item: MapItem) -> Result<(), NoMemory>
+        requires { found self.old key.now ≡ None }
+        ensures ok { OnOk result (self.new ≡ with_entry self.old key.now item) }
         ensures err { OnErr result (self.new ≡ self.old) }
     {
-        let before = self.end(&key);
-        let after = item.end();
-        let again = key.copy()?;
-        self.deadlines.add(after, &key)?;
-        match self.items.insert(key, item) {
-            Ok(_) => {
-                self.deadlines.forget(replaced(before, after), again);
-                Ok(())
-            }
-            Err(_) => {
-                self.deadlines.forget(after, again);
+        let own = key.copy()?;
+        let end = item.end();
+        self.deadlines.add(end, key)?;
+        match self.items.insert(own, item) {
+            Ok(_) => Ok(()),
+            Err(refused) => {
+                let (own, _) = refused.value;
+                self.deadlines.forget(end, own);
                 Err(NoMemory)
             }
         }
     }
 
-    /// Takes the entry of a key out.
-    pub fn remove(&mut self, key: Key)
-        ensures { self.new ≡ without_entry self.old key }
+    /// Takes the entry of a key out. Answers what stood there.
+    pub fn remove(&mut self, key: Key) -> Option<MapItem>
+        ensures old { result ≡ found self.old key }
+        ensures after { self.new ≡ without_entry self.old key }
     {
-        let end = self.end(&key);
-        self.items.remove(&key);
-        self.deadlines.forget(end, key);
+        let item = self.items.remove(&key)?;
+        self.deadlines.forget(item.end(), key);
+        Some(item)
     }
 
     /// Takes the entries of the keys out.
@@ -148,14 +162,7 @@ impl Duplicate for Entries {
     fn copy(&self) -> Result<Entries, NoMemory> {
         Ok(Entries {
             items: self.items.clone()?,
-            deadlines: self.deadlines.copy()?,
+            deadlines: self.deadlines.clone()?,
         })
     }
-}
-
-/// The end that was before, where it is not the end that came after.
-fn replaced(before: Option<u128>, after: Option<u128>) -> Option<u128>
-    ensures { result ≡ replaced_end before after }
-{
-    if before == after { None } else { before }
 }

@@ -1,5 +1,5 @@
 ghost use Rattle.std.specs.Prelude.{◌≡◌, ◌+◌};
-ghost use Rattle.res_map.specs.Deadlines.{end_of};
+ghost use Rattle.res_map.specs.Lives.{end_of};
 
 use ax_types::{Duplicate, Life, NoMemory, Text};
 use std::alloc::AllocError;
@@ -66,6 +66,13 @@ impl MapItem {
         ensures { result.now ≡ self.now.text }
     {
         &self.text
+    }
+
+    /// The text alone.
+    pub fn into_text(self) -> Text
+        ensures { result ≡ self.text }
+    {
+        self.text
     }
 
     /// The log time at which its life ends, where it has one.

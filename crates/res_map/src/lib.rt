@@ -1,7 +1,6 @@
 //! Maps whose entries may have a life in log time.
 #![tactic(auto)]
 
-mod deadlines;
 mod entries;
 mod items;
 mod map;

@@ -2,8 +2,8 @@ ghost use Rattle.std.specs.Prelude.{◌≡◌, ℕ, ◌<◌, List as Items, ◌+
 ghost use Rattle.std.specs.Map.{keys_of};
 ghost use Rattle.spec_book.specs.Dict.{found};
 ghost use Rattle.spec_book.specs.Resources.{new_map, replied, tell};
-ghost use Rattle.spec_book.specs.MapTurn.{map_act, map_ask, map_unlistened, map_pass, map_passed, set_item, put_item, put_absent, replace_item, remove_item, lasting};
-ghost use Rattle.res_map.specs.Deadlines.{first_end};
+ghost use Rattle.spec_book.specs.MapTurn.{map_act, map_ask, map_unlistened, map_pass, map_passed, old_item, set_item, put_item, put_absent, replace_item, remove_item, lasting};
+ghost use Rattle.res_map.specs.Lives.{first_end};
 ghost use Rattle.res_map.specs.Told.{tell_keys};
 
 use crate::entries::Entries;
@@ -138,14 +138,14 @@ impl MapBox {
         }
     }
 
-    /// Puts an item at a key, and tells of it.
-    fn set(&mut self, name: &Name, key: &Key, item: MapItem, reply: Reply) -> Result<Turn, NoMemory>
-        ensures ok { IfOk result (λ turn. turn ≡ (set_item name.now key.now item reply self.old).turn) }
-        ensures after { OnOk result (self.new ≡ (set_item name.now key.now item reply self.old).state) }
+    /// Puts an item at a key, replies what stood there, and tells of it.
+    fn set(&mut self, name: &Name, key: &Key, item: MapItem) -> Result<Turn, NoMemory>
+        ensures ok { IfOk result (λ turn. turn ≡ (set_item name.now key.now item (old_item (found self.old.entries key.now)) self.old).turn) }
+        ensures after { OnOk result (self.new ≡ (set_item name.now key.now item (old_item (found self.old.entries key.now)) self.old).state) }
         ensures err { OnErr result (self.new ≡ self.old) }
     {
         let told = self.tell_changed(name, key, item.text())?;
-        self.entries.set(key.copy()?, item)?;
+        let reply = old_text(self.entries.set(key, item)?);
         Ok(Turn { reply, told })
     }
 
@@ -161,19 +161,10 @@ impl MapBox {
         ensures after { OnOk result (self.new ≡ (put_item name.now key.now (record { text = text.now; life = life }) (found self.old.entries key.now) self.old).state) }
         ensures err { OnErr result (self.new ≡ self.old) }
     {
-        let item = MapItem::new(text.copy()?, life);
-        match self.entries.get(key) {
-            None => {
-                if self.entries.len() >= MAX_ENTRIES {
-                    return Ok(self.quiet(Reply::Full));
-                }
-                self.set(name, key, item, Reply::Nothing)
-            }
-            Some(old) => {
-                let reply = Reply::Found(old.text().copy()?);
-                self.set(name, key, item, reply)
-            }
+        if self.entries.len() >= MAX_ENTRIES && !self.entries.contains(key) {
+            return Ok(self.quiet(Reply::Full));
         }
+        self.set(name, key, MapItem::new(text.copy()?, life))
     }
 
     /// Puts a text at a key that has none.
@@ -197,13 +188,10 @@ impl MapBox {
         ensures after { OnOk result (self.new ≡ (replace_item name.now key.now (lasting text.now) (found self.old.entries key.now) self.old).state) }
         ensures err { OnErr result (self.new ≡ self.old) }
     {
-        match self.entries.get(key) {
-            None => Ok(self.quiet(Reply::Nothing)),
-            Some(old) => {
-                let reply = Reply::Found(old.text().copy()?);
-                let item = MapItem::new(text.copy()?, None);
-                self.set(name, key, item, reply)
-            }
+        if self.entries.contains(key) {
+            self.set(name, key, MapItem::new(text.copy()?, None))
+        } else {
+            Ok(self.quiet(Reply::Nothing))
         }
     }
 
@@ -213,16 +201,14 @@ impl MapBox {
         ensures after { OnOk result (self.new ≡ (remove_item name.now key.now (found self.old.entries key.now) self.old).state) }
         ensures err { OnErr result (self.new ≡ self.old) }
     {
-        match self.entries.get(key) {
-            None => Ok(self.quiet(Reply::Nothing)),
-            Some(old) => {
-                let reply = Reply::Found(old.text().copy()?);
-                let mut told = List::new(self.alloc);
-                self.tell_removed(&mut told, name, key)?;
-                self.entries.remove(key.copy()?);
-                Ok(Turn { reply, told })
-            }
+        if !self.entries.contains(key) {
+            return Ok(self.quiet(Reply::Nothing));
         }
+        let own = key.copy()?;
+        let mut told = List::new(self.alloc);
+        self.tell_removed(&mut told, name, key)?;
+        let reply = old_text(self.entries.remove(own));
+        Ok(Turn { reply, told })
     }
 
     /// Takes all entries out, and tells of each in ascending order of key.
@@ -317,5 +303,15 @@ impl Duplicate for MapBox {
             entries: self.entries.copy()?,
             listeners: self.listeners.copy()?,
         })
+    }
+}
+
+/// What stood at a key, as a reply.
+fn old_text(old: Option<MapItem>) -> Reply
+    ensures { result ≡ old_item old }
+{
+    match old {
+        None => Reply::Nothing,
+        Some(item) => Reply::Found(item.into_text()),
     }
 }

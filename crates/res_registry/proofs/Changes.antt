@@ -1,5 +1,6 @@
 -- The indexes after one change.
 use Rattle.std.proofs.Common.{◌≡◌, ℕ, ◌∙◌, refl, sym, ap, subst, Bool, true, false, cond, List, Option, Some, None, nat_eq}
+use Rattle.std.specs.Prelude.{if◌then◌else◌}
 use Rattle.std.specs.Ordering.{nat_cmp}
 use Rattle.std.specs.Cmp.{nat_cmp_total}
 use Rattle.std.proofs.lemmas.Cmp.{eq_by_cmp_equiv}
@@ -7,19 +8,25 @@ use Rattle.std.specs.Option.{option_eq}
 use Rattle.std.specs.BTreeMap.{is_at}
 use Rattle.std.specs.Map.{lookup}
 use Rattle.std.proofs.lemmas.Map.Lookups.{exact_unsigned}
-use Rattle.std.proofs.lemmas.Map.Views.{tells_apart}
+use Rattle.std.proofs.lemmas.Map.Views.{tells_apart, exact_unsigned_eq}
 use Rattle.spec_book.specs.Dict.{bytes_cmp, has_text}
-use Rattle.res_map.specs.Deadlines.{SetsDeadline, has_deadline, is_end}
-use Rattle.res_map.proofs.Index.{SetsDeadline-elsewhere, SetsDeadline-at_key}
+use Rattle.res_deadlines.specs.Deadlines.{has_deadline, is_end, ChangesDeadline}
+use Rattle.res_deadlines.proofs.Index.{ChangesDeadline-at_key}
 use Rattle.std.proofs.lemmas.Bool.{eq-eqb}
 use Rattle.res_registry.specs.Indexes.{session_names, names_of}
-use Rattle.res_registry.specs.Steps.{ChangesEnd}
-use Rattle.res_registry.proofs.Found.{name_at_itself, same_name}
+use Rattle.res_registry.proofs.Found.{key_at_itself, same_key}
 
 -- an end that is at the time
 end_at : (end : Option ℕ) (time : ℕ) → is_end end time ≡ true → end ≡ Some time
 end_at None time h = cc
 end_at (Some end) time h = ap Some (tells_apart exact_unsigned end time h)
+
+-- two ends that are equal by their test are equal
+option_same : (a b : Option ℕ) → option_eq nat_eq a b ≡ true → a ≡ b
+option_same None None h = refl
+option_same None (Some b) h = cc
+option_same (Some a) None h = cc
+option_same (Some a) (Some b) h = ap Some (exact_unsigned_eq a b h)
 
 -- an end is at its time
 end_here : (end : Option ℕ) (time : ℕ) → end ≡ Some time → is_end end time ≡ true
@@ -28,25 +35,28 @@ end_here (Some end) time e =
     let same : end ≡ time = cc in
     subst (λ (n : ℕ). is_at (nat_cmp end) n ≡ true) same ((eq_by_cmp_equiv nat_cmp_total).refl end)
 
--- the end that came after is added, and then the one before is taken out
-pub ChangesEnd-other : (ends added left : List (ℕ × List ℕ)) (name : List ℕ) (before after : Option ℕ) → option_eq nat_eq before after ≡ false
-    → SetsDeadline true ends added after name → SetsDeadline false added left before name → ChangesEnd ends left name before after
-ChangesEnd-other ends added left name before after apart adds drops = record {
-  others = λ time q e.
-      SetsDeadline-elsewhere false added left before name drops time q e ∙ SetsDeadline-elsewhere true ends added after name adds time q e;
-  has = λ time e had.
-      SetsDeadline-at_key false added left before name drops time name (name_at_itself name)
-      ∙ (ap (λ (b : Bool). cond b false (has_deadline added time name)) (gone time e (is_end before time) refl)
-      ∙ (SetsDeadline-at_key true ends added after name adds time name (name_at_itself name)
-      ∙ ap (λ (b : Bool). cond b true (has_deadline ends time name)) (end_here after time e)));
-}
+-- the index has the end that came after, where it had the one before
+pub end_after : (old new : List (ℕ × List ℕ)) (name : List ℕ) (before after : Option ℕ) → ChangesDeadline bytes_cmp old new name before after
+    → (time : ℕ) → after ≡ Some time → (before ≡ Some time → has_deadline bytes_cmp old time name ≡ true) → has_deadline bytes_cmp new time name ≡ true
+end_after old new name before after changes time is had =
+    ChangesDeadline-at_key bytes_cmp old new name before after changes time name (key_at_itself name) ∙ by_same (option_eq nat_eq before after) refl
   where
-    gone : (time : ℕ) → after ≡ Some time → (b : Bool) → is_end before time ≡ b → b ≡ false
-    gone time e true h =
-        let is : before ≡ Some time = end_at before time h in
-        let same : option_eq nat_eq before after ≡ true = rw (is, e) (eq-eqb time time refl) in
+    was : Bool
+    was = has_deadline bytes_cmp old time name
+
+    gone : (b : Bool) → is_end before time ≡ b → option_eq nat_eq before after ≡ false → b ≡ false
+    gone false h apart = refl
+    gone true h apart =
+        let at : before ≡ Some time = end_at before time h in
+        let same : option_eq nat_eq before after ≡ true = rw (at, is) (eq-eqb time time refl) in
         cc
-    gone time e false h = refl
+
+    by_same : (same : Bool) → option_eq nat_eq before after ≡ same
+        → (if same then was else cond (is_end before time) false (cond (is_end after time) true was)) ≡ true
+    by_same true e = had (option_same before after e ∙ is)
+    by_same false e =
+        ap (λ (b : Bool). cond b false (cond (is_end after time) true was)) (gone (is_end before time) refl e)
+        ∙ ap (λ (b : Bool). cond b true was) (end_here after time is)
 
 -- a name that is added to names that have it
 pub has-again : (names : List (List ℕ)) (name : List ℕ) → has_text names name ≡ true
@@ -54,7 +64,7 @@ pub has-again : (names : List (List ℕ)) (name : List ℕ) → has_text names n
 has-again names name has q = by_test (is_at (bytes_cmp name) q) refl
   where
     by_test : (b : Bool) → is_at (bytes_cmp name) q ≡ b → has_text names q ≡ cond b true (has_text names q)
-    by_test true e = ap (λ (n : List ℕ). has_text names n) (sym (same_name name q e)) ∙ has
+    by_test true e = ap (λ (n : List ℕ). has_text names n) (sym (same_key name q e)) ∙ has
     by_test false e = refl
 
 -- the names of a session that was just given one more
@@ -64,4 +74,4 @@ pub has-added : (index : List (ℕ × List (List ℕ))) (session : ℕ) (names o
     → has_text (session_names index session) name ≡ true
 has-added index session names old name at adds =
     ap (λ (o : Option (List (List ℕ))). has_text (names_of o) name) at
-    ∙ (adds name ∙ ap (λ (b : Bool). cond b true (has_text old name)) (name_at_itself name))
+    ∙ (adds name ∙ ap (λ (b : Bool). cond b true (has_text old name)) (key_at_itself name))

@@ -5,7 +5,7 @@ use Rattle.spec_book.specs.Dict.{bytes_cmp, found, with_entry}
 use Rattle.spec_book.specs.Resources.{Resource}
 use Rattle.spec_book.specs.Book.{Book}
 use Rattle.res_registry.specs.Walk.{Visit, whole_state}
-use Rattle.res_registry.proofs.Found.{same_name, found_with_same, found_with_other}
+use Rattle.res_registry.proofs.Found.{same_key, found_with_same, found_with_other}
 
 -- what holds of each resource, with its name
 abbrev pub Each : (List ℕ → Resource → Type 0) → Book → Type 0
@@ -21,7 +21,7 @@ Each-with P book name after others here = λ k r there. by_test k r there (is_at
     by_test : (k : List ℕ) (r : Resource) → found (with_entry book name after) k ≡ Some r → (b : Bool) → is_at (bytes_cmp k) name ≡ b → P k r
     by_test k r there false t = others k r (sym (found_with_other book name after k t) ∙ there) t
     by_test k r there true t =
-        let same : name ≡ k = sym (same_name k name t) in
+        let same : name ≡ k = sym (same_key k name t) in
         let at : found (with_entry book name after) k ≡ Some after = ap (λ (n : List ℕ). found (with_entry book name after) n) (sym same) ∙ found_with_same book name after in
         let is : after ≡ r = cc in
         let Q : List ℕ → Type 0 = λ n. P n after in
@@ -35,7 +35,7 @@ found_whole f (e ∷ book) k = by_test (is_at (bytes_cmp k) e.0) refl (found_who
   where
     by_test : (b : Bool) → is_at (bytes_cmp k) e.0 ≡ b → found (whole_state f book) k ≡ option_map (λ (r : Resource). (f k r).state) (found book k)
         → cond b (Some (f e.0 e.1).state) (found (whole_state f book) k) ≡ option_map (λ (r : Resource). (f k r).state) (cond b (Some e.1) (found book k))
-    by_test true t more = ap (λ (n : List ℕ). Some (f n e.1).state) (sym (same_name k e.0 t))
+    by_test true t more = ap (λ (n : List ℕ). Some (f n e.1).state) (sym (same_key k e.0 t))
     by_test false t more = more
 
 pub Each-whole : (P Q : List ℕ → Resource → Type 0) (f : Visit) (book : Book) → ((k : List ℕ) (r : Resource) → P k r → Q k (f k r).state)

@@ -8,9 +8,9 @@ use Rattle.std.proofs.lemmas.Bool.{false≢true, cases_lt, and_from, and_parts, 
 use Rattle.spec_book.specs.Dict.{bytes_cmp, found, has_text}
 use Rattle.spec_book.specs.Resources.{Resource, Acted}
 use Rattle.spec_book.specs.Book.{Book, unlistened, all_unlistened, resource_pass, pass, passed, resource_end, left, left_told}
-use Rattle.res_map.specs.Deadlines.{has_passed}
-use Rattle.res_map.proofs.Index.{is_eq-ordering_then}
-use Rattle.res_registry.specs.Indexes.{next_end, knows, has_end, HasEnds, session_names, HasNames}
+use Rattle.res_deadlines.specs.Deadlines.{has_deadline, has_passed}
+use Rattle.res_deadlines.proofs.Index.{is_eq-ordering_then}
+use Rattle.res_registry.specs.Indexes.{next_end, knows, HasEnds, session_names, HasNames}
 use Rattle.res_registry.specs.Single.{IsSingle, AreSingle}
 use Rattle.res_registry.specs.Walk.{Visit, walked_state, walked_told, whole_state, unlisten_visit, pass_visit, leave_visit}
 use Rattle.res_registry.proofs.Walks.{IsIdleOutside, walked_whole, whole_passed, whole_left_told}
@@ -55,12 +55,12 @@ walked_left place session book index has ordered sorted =
     (w.0, w.1 ∙ whole_left_told place session book)
 
 -- ---- the names whose end has passed
-pub has_passed-from_end : (ends : List (ℕ × List ℕ)) (time end : ℕ) (name : List ℕ) → has_end ends end name ≡ true → end ≤ time
-    → has_passed time ends name ≡ true
+pub has_passed-from_end : (ends : List (ℕ × List ℕ)) (time end : ℕ) (name : List ℕ) → has_deadline bytes_cmp ends end name ≡ true → end ≤ time
+    → has_passed bytes_cmp time ends name ≡ true
 has_passed-from_end [] time end name has below = has
 has_passed-from_end (d ∷ ends) time end name has below =
-    by_either (or_either (is_eq (nat_cmp end d.0) && is_at (bytes_cmp name) d.1) (has_end ends end name)
-    (ap (λ (b : Bool). b || has_end ends end name) (sym (is_eq-ordering_then (nat_cmp end d.0) (bytes_cmp name d.1))) ∙ has))
+    by_either (or_either (is_eq (nat_cmp end d.0) && is_at (bytes_cmp name) d.1) (has_deadline bytes_cmp ends end name)
+    (ap (λ (b : Bool). b || has_deadline bytes_cmp ends end name) (sym (is_eq-ordering_then (nat_cmp end d.0) (bytes_cmp name d.1))) ∙ has))
     (λ h. has_passed-from_end ends time end name h below)
   where
     here : Bool
@@ -69,16 +69,16 @@ has_passed-from_end (d ∷ ends) time end name has below =
     at : is_at (nat_cmp end) d.0 ≡ true → nat_le d.0 time ≡ true
     at e = let same : end ≡ d.0 = same_session end d.0 e in le-leb d.0 time (omega arith)
 
-    by_either : ((is_eq (nat_cmp end d.0) && is_at (bytes_cmp name) d.1) ≡ true) ⊎ (has_end ends end name ≡ true)
-        → (has_end ends end name ≡ true → has_passed time ends name ≡ true)
-        → (here || has_passed time ends name) ≡ true
+    by_either : ((is_eq (nat_cmp end d.0) && is_at (bytes_cmp name) d.1) ≡ true) ⊎ (has_deadline bytes_cmp ends end name ≡ true)
+        → (has_deadline bytes_cmp ends end name ≡ true → has_passed bytes_cmp time ends name ≡ true)
+        → (here || has_passed bytes_cmp time ends name) ≡ true
     by_either (inl e) more =
         let parts = and_parts (is_eq (nat_cmp end d.0)) (is_at (bytes_cmp name) d.1) e in
-        or_left here (has_passed time ends name) (and_from (nat_le d.0 time) (is_at (bytes_cmp name) d.1) (at parts.0) parts.1)
-    by_either (inr e) more = or_right here (has_passed time ends name) (more e)
+        or_left here (has_passed bytes_cmp time ends name) (and_from (nat_le d.0 time) (is_at (bytes_cmp name) d.1) (at parts.0) parts.1)
+    by_either (inr e) more = or_right here (has_passed bytes_cmp time ends name) (more e)
 
 pub idle_pass : (time : ℕ) (names : List (List ℕ)) (book : Book) (ends : List (ℕ × List ℕ)) → HasEnds book ends
-    → ((name : List ℕ) → has_text names name ≡ has_passed time ends name)
+    → ((name : List ℕ) → has_text names name ≡ has_passed bytes_cmp time ends name)
     → IsIdleOutside (pass_visit time) names book
 idle_pass time names book ends has are = λ k r there absent. quiet-pass k time r (later k r there absent (next_end r) refl)
   where
@@ -92,7 +92,7 @@ idle_pass time names book ends has are = λ k r there absent. quiet-pass k time 
         by_time (inr l) = absurd (false≢true (sym absent ∙ (are k ∙ has_passed-from_end ends time end k (has k r end there e) l)))
 
 pub walked_passed : (time : ℕ) (names : List (List ℕ)) (book : Book) (ends : List (ℕ × List ℕ)) → HasEnds book ends
-    → ((name : List ℕ) → has_text names name ≡ has_passed time ends name)
+    → ((name : List ℕ) → has_text names name ≡ has_passed bytes_cmp time ends name)
     → IsStrictlySortedBy bytes_cmp names → IsStrictlySortedBy bytes_cmp (keys_of book)
     → (walked_state (pass_visit time) names book ≡ pass time book) × (walked_told (pass_visit time) names book ≡ passed time book)
 walked_passed time names book ends has are ordered sorted =

@@ -4,11 +4,13 @@ use Rattle.std.specs.BTreeMap.{is_at}
 use Rattle.spec_book.specs.Dict.{bytes_cmp, with_entry, has_text}
 use Rattle.spec_book.specs.Resources.{Resource}
 use Rattle.spec_book.specs.Book.{Book, all_unlistened, pass, left}
-use Rattle.res_registry.specs.Indexes.{next_end, knows, has_end, HasEnds, session_names, HasNames}
+use Rattle.res_deadlines.specs.Deadlines.{has_deadline, ChangesDeadline}
+use Rattle.res_deadlines.proofs.Index.{ChangesDeadline-elsewhere}
+use Rattle.res_registry.specs.Indexes.{next_end, knows, HasEnds, session_names, HasNames}
 use Rattle.res_registry.specs.Single.{IsSingle, AreSingle}
-use Rattle.res_registry.specs.Steps.{ChangesEnd}
 use Rattle.res_registry.specs.Walk.{Visit, whole_state, unlisten_visit, pass_visit, leave_visit}
-use Rattle.res_registry.proofs.Found.{same_name_swapped}
+use Rattle.res_registry.proofs.Changes.{end_after}
+use Rattle.res_registry.proofs.Found.{same_key_swapped}
 use Rattle.res_registry.proofs.Known.{known-pass, known-unlistened, known-end}
 use Rattle.res_registry.proofs.Quiet.{ends-unlistened, ends-end}
 use Rattle.res_registry.proofs.Single.{IsSingle-pass, IsSingle-unlistened, IsSingle-end}
@@ -16,7 +18,7 @@ use Rattle.res_registry.proofs.Each.{Each, Each-with, Each-whole}
 
 -- what the indexes need to have of a resource
 abbrev NeedsEnd : List (ℕ × List ℕ) → List ℕ → Resource → Type 0
-NeedsEnd ends name r = (time : ℕ) → next_end r ≡ Some time → has_end ends time name ≡ true
+NeedsEnd ends name r = (time : ℕ) → next_end r ≡ Some time → has_deadline bytes_cmp ends time name ≡ true
 
 abbrev NeedsName : List (ℕ × List (List ℕ)) → List ℕ → Resource → Type 0
 NeedsName index name r = (s : ℕ) → knows r s ≡ true → has_text (session_names index s) name ≡ true
@@ -40,12 +42,12 @@ from_each_name book index each = λ k r s there is. each k r there s is
 -- ---- after a resource was put at a name
 -- the index has what the resource needs, and what it had of other names
 HasEnds-put : (book : Book) (ends now : List (ℕ × List ℕ)) (name : List ℕ) (after : Resource) → HasEnds book ends
-    → ((time : ℕ) (k : List ℕ) → is_at (bytes_cmp name) k ≡ false → has_end ends time k ≡ true → has_end now time k ≡ true)
-    → ((time : ℕ) → next_end after ≡ Some time → has_end now time name ≡ true)
+    → ((time : ℕ) (k : List ℕ) → is_at (bytes_cmp name) k ≡ false → has_deadline bytes_cmp ends time k ≡ true → has_deadline bytes_cmp now time k ≡ true)
+    → ((time : ℕ) → next_end after ≡ Some time → has_deadline bytes_cmp now time name ≡ true)
     → HasEnds (with_entry book name after) now
 HasEnds-put book ends now name after has others here =
     from_each_end (with_entry book name after) now (Each-with (NeedsEnd now) book name after
-    (λ k r there apart time is. others time k (same_name_swapped name k ∙ apart) (has k r time there is)) here)
+    (λ k r there apart time is. others time k (same_key_swapped name k ∙ apart) (has k r time there is)) here)
 
 pub HasNames-with : (book : Book) (index now : List (ℕ × List (List ℕ))) (name : List ℕ) (after : Resource) → HasNames book index → KeepsNames index now
     → ((s : ℕ) → knows after s ≡ true → has_text (session_names now s) name ≡ true)
@@ -58,11 +60,12 @@ AreSingle-with book name after single here = Each-with (λ k r. IsSingle r) book
 
 -- the next end at a name was one that the index had, and is another that the index has
 pub HasEnds-with : (book : Book) (ends now : List (ℕ × List ℕ)) (name : List ℕ) (after : Resource) (before : Option ℕ)
-    → ChangesEnd ends now name before (next_end after)
-    → ((time : ℕ) → before ≡ Some time → has_end ends time name ≡ true)
+    → ChangesDeadline bytes_cmp ends now name before (next_end after)
+    → ((time : ℕ) → before ≡ Some time → has_deadline bytes_cmp ends time name ≡ true)
     → HasEnds book ends → HasEnds (with_entry book name after) now
 HasEnds-with book ends now name after before changes had has =
-    HasEnds-put book ends now name after has (λ time k apart is. changes.others time k apart ∙ is) (λ time is. changes.has time is (had time))
+    HasEnds-put book ends now name after has (λ time k apart is. ChangesDeadline-elsewhere bytes_cmp ends now name before (next_end after) changes time k apart ∙ is)
+    (λ time is. end_after ends now name before (next_end after) changes time is (had time))
 
 -- ---- after visits that make no new need
 

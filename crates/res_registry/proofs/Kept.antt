@@ -8,10 +8,11 @@ use Rattle.ax_types.specs.declared.ops.Op.{Op}
 use Rattle.spec_book.specs.Dict.{bytes_cmp, with_entry, has_text}
 use Rattle.spec_book.specs.Resources.{Resource}
 use Rattle.spec_book.specs.Book.{Book, all_unlistened, pass, left, left_told}
-use Rattle.res_registry.specs.Indexes.{next_end, knows, registers, has_end, HasEnds, session_names}
+use Rattle.res_registry.specs.Indexes.{next_end, knows, registers, HasEnds, session_names}
 use Rattle.res_registry.specs.Kept.{IsKept}
 use Rattle.res_registry.specs.Single.{IsSingle}
-use Rattle.res_registry.specs.Steps.{ChangesEnd, NotesName}
+use Rattle.res_registry.specs.Steps.{NotesName}
+use Rattle.res_deadlines.specs.Deadlines.{has_deadline, ChangesDeadline}
 use Rattle.res_registry.specs.Walk.{Visit, walked_state, walked_told, whole_state, unlisten_visit, pass_visit, leave_visit}
 use Rattle.res_registry.proofs.Walks.{whole_names}
 use Rattle.res_registry.proofs.Indexes.{HasNames-with, AreSingle-with, HasEnds-unlistened, HasEnds-left, HasNames-unlistened, HasNames-pass, AreSingle-unlistened, AreSingle-pass, AreSingle-left}
@@ -42,8 +43,8 @@ kept-pass time book ends after index kept has = record {
 -- ---- after a command
 pub kept-turn : (book : Book) (ends ends' : List (ℕ × List ℕ)) (index index' : List (ℕ × List (List ℕ))) (name : List ℕ) (r : Resource) (before : Option ℕ)
     (session : ℕ) (o : Op) → IsKept book ends index → IsStrictlySortedBy bytes_cmp (keys_of (with_entry book name r))
-    → ChangesEnd ends ends' name before (next_end r)
-    → ((time : ℕ) → before ≡ Some time → has_end ends time name ≡ true)
+    → ChangesDeadline bytes_cmp ends ends' name before (next_end r)
+    → ((time : ℕ) → before ≡ Some time → has_deadline bytes_cmp ends time name ≡ true)
     → NotesName index index' session name o
     → ((s : ℕ) → knows r s ≡ true → (has_text (session_names index s) name ≡ true) ⊎ ((s ≡ session) × (registers o ≡ true)))
     → IsSingle r → IsKept (with_entry book name r) ends' index'

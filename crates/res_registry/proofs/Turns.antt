@@ -11,20 +11,21 @@ use Rattle.spec_book.specs.Book.{Book, op_kind, resource_act, turn_at, turn, pas
 use Rattle.res_registry.specs.Indexes.{next_end, knows, registers, HasEnds, session_names}
 use Rattle.res_registry.specs.Kept.{IsKept}
 use Rattle.res_registry.specs.Single.{IsSingle}
-use Rattle.res_registry.specs.Steps.{ChangesEnd, NotesName}
+use Rattle.res_deadlines.specs.Deadlines.{ChangesDeadline}
+use Rattle.res_registry.specs.Steps.{NotesName}
 use Rattle.res_registry.proofs.Found.{names_with}
 use Rattle.res_registry.proofs.Kept.{kept-pass, kept-turn, HasEnds-with}
 use Rattle.res_registry.proofs.Known.{known-new, known-act}
 use Rattle.res_registry.proofs.Single.{IsSingle-new, IsSingle-act}
-use Rattle.res_registry.proofs.Written.{set_value-with}
+use Rattle.res_map.proofs.Written.{set_value-with}
 
 -- the index of ends, after a resource was written where it stands
 pub ends-written : (book now : Book) (ends ends' : List (ℕ × List ℕ)) (name : List ℕ) (r w : Resource) (before after : Option ℕ)
     → IsStrictlySortedBy bytes_cmp (keys_of book) → found book name ≡ Some r → now ≡ set_value (is_at (bytes_cmp name)) book w
-    → before ≡ next_end r → after ≡ next_end w → ChangesEnd ends ends' name before after → HasEnds book ends → HasEnds now ends'
+    → before ≡ next_end r → after ≡ next_end w → ChangesDeadline bytes_cmp ends ends' name before after → HasEnds book ends → HasEnds now ends'
 ends-written book now ends ends' name r w before after sorted there set was is changes has =
     let H : Book → Type 0 = λ b. HasEnds b ends' in
-    let C : Option ℕ → Type 0 = λ o. ChangesEnd ends ends' name before o in
+    let C : Option ℕ → Type 0 = λ o. ChangesDeadline bytes_cmp ends ends' name before o in
     subst H (sym (set ∙ set_value-with book name r w sorted there))
     (HasEnds-with book ends ends' name w before (subst C is changes) (λ time e. has name r time there (sym was ∙ e)) has)
 
@@ -39,12 +40,12 @@ kept-passed time book now ends ends' index kept is has =
 -- ---- after the first command at a name
 pub kept-first : (book now : Book) (ends ends' : List (ℕ × List ℕ)) (index index' : List (ℕ × List (List ℕ))) (name : List ℕ) (place time session : ℕ) (o : Op)
     (r : Resource) (after : Option ℕ) → IsKept book ends index → now ≡ with_entry book name r → IsStrictlySortedBy bytes_cmp (keys_of now)
-    → r ≡ (resource_act name place time session o (new_resource (op_kind o))).state → after ≡ next_end r → ChangesEnd ends ends' name None after
+    → r ≡ (resource_act name place time session o (new_resource (op_kind o))).state → after ≡ next_end r → ChangesDeadline bytes_cmp ends ends' name None after
     → NotesName index index' session name o → IsKept now ends' index'
 kept-first book now ends ends' index index' name place time session o r after kept put sorted is at changes notes =
     let K : Book → Type 0 = λ b. IsKept b ends' index' in
     let S : Book → Type 0 = λ b. IsStrictlySortedBy bytes_cmp (keys_of b) in
-    let C : Option ℕ → Type 0 = λ o. ChangesEnd ends ends' name None o in
+    let C : Option ℕ → Type 0 = λ o. ChangesDeadline bytes_cmp ends ends' name None o in
     let O : Resource → Type 0 = λ x. IsSingle x in
     let new : Resource = new_resource (op_kind o) in
     subst K (sym put)
@@ -60,12 +61,12 @@ kept-first book now ends ends' index index' name place time session o r after ke
 -- ---- after a later command at a name
 pub kept-later : (book now : Book) (ends ends' : List (ℕ × List ℕ)) (index index' : List (ℕ × List (List ℕ))) (name : List ℕ) (place time session : ℕ) (o : Op)
     (old r : Resource) (before after : Option ℕ) → IsKept book ends index → found book name ≡ Some old → now ≡ set_value (is_at (bytes_cmp name)) book r
-    → r ≡ (resource_act name place time session o old).state → before ≡ next_end old → after ≡ next_end r → ChangesEnd ends ends' name before after
+    → r ≡ (resource_act name place time session o old).state → before ≡ next_end old → after ≡ next_end r → ChangesDeadline bytes_cmp ends ends' name before after
     → NotesName index index' session name o → IsKept now ends' index'
 kept-later book now ends ends' index index' name place time session o old r before after kept there set is was at changes notes =
     let K : Book → Type 0 = λ b. IsKept b ends' index' in
     let S : List (List ℕ) → Type 0 = λ names. IsStrictlySortedBy bytes_cmp names in
-    let C : Option ℕ → Type 0 = λ o. ChangesEnd ends ends' name before o in
+    let C : Option ℕ → Type 0 = λ o. ChangesDeadline bytes_cmp ends ends' name before o in
     let O : Resource → Type 0 = λ x. IsSingle x in
     subst K (sym (set ∙ set_value-with book name old r kept.ascending there))
     (kept-turn book ends ends' index index' name r before session o kept (subst S (sym (names_with book name old r kept.ascending there)) kept.ascending)

@@ -14,7 +14,7 @@ use Rattle.spec_book.specs.Dict.{bytes_cmp, found, with_entry, has_text}
 use Rattle.spec_book.specs.Resources.{Resource, Acted, replied}
 use Rattle.spec_book.specs.Book.{Book, passed, left_told}
 use Rattle.res_registry.specs.Walk.{Visit, visited_at, visited, walked_state, walked_told, whole_state, whole_told, pass_visit, leave_visit}
-use Rattle.res_registry.proofs.Found.{IsBelow, below_all, has_text-below, below_from_above, above_from_below, name_itself, same_name, none_below_head, none_past_head, found_head, found_tail}
+use Rattle.res_registry.proofs.Found.{IsBelow, below_all, has_text-below, below_from_above, above_from_below, name_itself, same_key, none_below_head, none_past_head, found_head, found_tail}
 
 -- a visit that neither changes nor tells
 abbrev pub IsIdle : Visit → List ℕ → Resource → Type 0
@@ -70,7 +70,7 @@ whole_below f n names e book sorted h idle more =
   where
     elsewhere : (k : List ℕ) (r : Resource) → found (e ∷ book) k ≡ Some r → (b : Bool) → is_at (bytes_cmp k) n ≡ b → found (e ∷ book) n ≡ None
         → has_text (n ∷ names) k ≡ has_text names k
-    elsewhere k r there true t none = let same : found (e ∷ book) k ≡ found (e ∷ book) n = ap (λ (m : List ℕ). found (e ∷ book) m) (same_name k n t) in cc
+    elsewhere k r there true t none = let same : found (e ∷ book) k ≡ found (e ∷ book) n = ap (λ (m : List ℕ). found (e ∷ book) m) (same_key k n t) in cc
     elsewhere k r there false t none = rw t refl
 
 -- the name of the first entry itself
@@ -96,7 +96,7 @@ whole_here f names e book sorted below idle more =
     elsewhere : (k : List ℕ) (r : Resource) → found book k ≡ Some r → has_text names k ≡ false → (b : Bool) → is_at (bytes_cmp k) e.0 ≡ b
         → has_text (e.0 ∷ names) k ≡ false
     elsewhere k r there absent true t =
-        let none : found book k ≡ None = ap (λ (n : List ℕ). found book n) (same_name k e.0 t) ∙ none_past_head e book sorted in
+        let none : found book k ≡ None = ap (λ (n : List ℕ). found book n) (same_key k e.0 t) ∙ none_past_head e book sorted in
         cc
     elsewhere k r there absent false t = rw t absent
 

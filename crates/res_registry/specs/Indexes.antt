@@ -1,8 +1,6 @@
 -- The book's two indexes: of the next end of a life by time, and of the names of a session.
 use Rattle.std.specs.Prelude.{◌≡◌, ℕ, Bool, true, false, ◌||◌, List, [], Option, Some, None}
-use Rattle.std.specs.declared.cmp.Ordering.{Ordering}
-use Rattle.std.specs.Ordering.{nat_cmp, then_cmp, on}
-use Rattle.std.specs.List.{list_any}
+use Rattle.std.specs.Ordering.{nat_cmp}
 use Rattle.std.specs.BTreeMap.{is_at}
 use Rattle.std.specs.Map.{lookup}
 use Rattle.ax_types.specs.declared.ops.Op.{Op}
@@ -16,7 +14,8 @@ use Rattle.spec_book.specs.Dict.{bytes_cmp, found, has_session, has_text}
 use Rattle.spec_book.specs.Resources.{Resource, AMap, AValue, ALock, AGroup, ATopic}
 use Rattle.spec_book.specs.Owners.{has_part}
 use Rattle.spec_book.specs.Book.{Book}
-use Rattle.res_map.specs.Deadlines.{first_end}
+use Rattle.res_deadlines.specs.Deadlines.{has_deadline}
+use Rattle.res_map.specs.Lives.{first_end}
 
 -- the first log time at which the life of an entry of the resource ends, where it has one
 abbrev pub next_end : Resource → Option ℕ
@@ -43,18 +42,10 @@ registers (op.Group group_op.Listen) = true
 registers (op.Topic topic_op.Subscribe) = true
 registers o = false
 
--- the order of the index of ends: by time, then by name
-abbrev pub end_cmp : ℕ × List ℕ → ℕ × List ℕ → Ordering
-end_cmp = then_cmp (on (λ d. d.0) nat_cmp) (on (λ d. d.1) bytes_cmp)
-
--- whether the index has the time with the name
-abbrev pub has_end : List (ℕ × List ℕ) → ℕ → List ℕ → Bool
-has_end ends time name = list_any (is_at (end_cmp (time, name))) ends
-
 -- the index has the next end of each resource, with its name
 abbrev pub HasEnds : Book → List (ℕ × List ℕ) → Type 0
 HasEnds book ends =
-    (name : List ℕ) (r : Resource) (time : ℕ) → found book name ≡ Some r → next_end r ≡ Some time → has_end ends time name ≡ true
+    (name : List ℕ) (r : Resource) (time : ℕ) → found book name ≡ Some r → next_end r ≡ Some time → has_deadline bytes_cmp ends time name ≡ true
 
 -- the names of a session, where it has any
 abbrev pub names_of : Option (List (List ℕ)) → List (List ℕ)

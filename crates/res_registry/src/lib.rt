@@ -2,7 +2,6 @@
 #![tactic(auto)]
 
 mod book;
-mod ends;
 mod kinds;
 mod names;
 mod shelf;

@@ -37,6 +37,13 @@ impl Names {
         }
     }
 
+    /// These names.
+    pub fn of(names: BTreeSet<Name>) -> Self
+        ensures { result ≡ names.keys }
+    {
+        Names { names }
+    }
+
     /// Adds a name. The names are unchanged after want of memory.
     pub fn add(&mut self, name: &Name) -> Result<(), NoMemory>
         ensures ok { OnOk result ((q : Items ℕ) → has_text self.new q ≡ cond (is_at (bytes_cmp name.now) q) true (has_text self.old q)) }

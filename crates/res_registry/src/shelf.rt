@@ -5,12 +5,12 @@ ghost use Rattle.spec_book.specs.Book.{acted, ask, turn, turn_at, ended};
 ghost use Rattle.spec_book.specs.Dict.{found};
 ghost use Rattle.res_registry.specs.Kept.{IsKept};
 
-use crate::ends::Ends;
 use crate::kinds::{op_kind, query_kind};
 use crate::names::Touched;
 use crate::slot::Slot;
 use crate::visits;
 use ax_types::{Act, Duplicate, List, Name, NoMemory, Op, Query, Reply, Turn};
+use res_deadlines::Deadlines;
 use std::alloc::Global;
 use std::collections::BTreeMap;
 
@@ -22,7 +22,7 @@ pub const MAX_NAMES: usize = 1024;
 #[derive(Drop)]
 pub struct Shelf {
     pub slots: BTreeMap<Name, Slot>,
-    pub ends: Ends,
+    pub ends: Deadlines<Name>,
     pub touched: Touched,
 }
 
@@ -34,7 +34,7 @@ impl Shelf {
     {
         Shelf {
             slots: BTreeMap::new(alloc),
-            ends: Ends::new(alloc),
+            ends: Deadlines::new(alloc),
             touched: Touched::new(alloc),
         }
     }
@@ -187,7 +187,7 @@ impl Shelf {
     {
         Ok(Shelf {
             slots: self.slots.clone()?,
-            ends: self.ends.copy()?,
+            ends: self.ends.clone()?,
             touched: self.touched.copy()?,
         })
     }

@@ -7,10 +7,10 @@ ghost use Rattle.spec_book.specs.Book.{pass, passed};
 ghost use Rattle.res_registry.specs.Indexes.{HasEnds};
 ghost use Rattle.res_registry.specs.Walk.{visited, walked_state, walked_told, unlisten_visit, pass_visit, leave_visit};
 
-use crate::ends::Ends;
 use crate::names::Names;
 use crate::slot::Slot;
 use ax_types::{Event, List, Name, NoMemory};
+use res_deadlines::Deadlines;
 use std::alloc::Global;
 use std::collections::BTreeMap;
 
@@ -72,7 +72,7 @@ pub fn leave_all(
 /// The lives at a name that have ended at a log time go. Answers what is told of it.
 fn pass_at(
     slots: &mut BTreeMap<Name, Slot>,
-    ends: &mut Ends,
+    ends: &mut Deadlines<Name>,
     alloc: Global,
     name: &Name,
     time: u64,
@@ -96,7 +96,7 @@ fn pass_at(
 /// The lives at the names that have ended at a log time go. Answers what is told of it.
 fn pass_all(
     slots: &mut BTreeMap<Name, Slot>,
-    ends: &mut Ends,
+    ends: &mut Deadlines<Name>,
     alloc: Global,
     names: &Names,
     time: u64,
@@ -118,7 +118,7 @@ fn pass_all(
 /// Where none has ended, no name is looked at.
 pub fn pass(
     slots: &mut BTreeMap<Name, Slot>,
-    ends: &mut Ends,
+    ends: &mut Deadlines<Name>,
     alloc: Global,
     time: u64,
 ) -> Result<Vec<(u64, Event)>, NoMemory>
@@ -128,7 +128,7 @@ pub fn pass(
     ensures after { OnOk result (slots.new.entries ≡ pass time slots.old.entries) }
     ensures ends { OnOk result (HasEnds slots.new.entries ends.new) }
 {
-    let names = ends.passed(time)?;
+    let names = Names::of(ends.passed(time)?);
     let told = pass_all(slots, ends, alloc, &names, time)?;
     Ok(told)
 }

@@ -158,6 +158,26 @@ position-none p xs is = step (nat_lt (position_or_len p xs) (length xs)) refl is
     step true e at = absurd (cc)
     step false e at = none-at_last p xs (ltb-false _ _ e)
 
+-- where no session passes, `position` gives none
+position_or_len-absent : (p : ℕ → Bool) (xs : List ℕ) → list_any p xs ≡ false → position_or_len p xs ≡ length xs
+position_or_len-absent p [] absent = refl
+position_or_len-absent p (x ∷ xs) absent = step (p x) absent (position_or_len-absent p xs)
+  where
+    step : (b : Bool) → (b || list_any p xs) ≡ false → (list_any p xs ≡ false → position_or_len p xs ≡ length xs)
+        → cond (not b) (1 + position_or_len p xs) 0 ≡ length (x ∷ xs)
+    step true h rest = absurd (false≢true (sym h))
+    step false h rest = let same : position_or_len p xs ≡ length xs = rest h in omega arith
+
+pub position-absent : (p : ℕ → Bool) (xs : List ℕ) → list_any p xs ≡ false → None ≡ position p xs
+position-absent p xs absent = step (nat_lt (position_or_len p xs) (length xs)) refl
+  where
+    step : (b : Bool) → nat_lt (position_or_len p xs) (length xs) ≡ b → None ≡ cond b (Some (position_or_len p xs)) None
+    step true e =
+        let below : position_or_len p xs < length xs = ltb-true _ _ e in
+        let at : position_or_len p xs ≡ length xs = position_or_len-absent p xs absent in
+        absurd (omega arith)
+    step false e = refl
+
 -- no session stands where `position` gives none
 pub absent_by_place : (xs : List ℕ) (s : ℕ) (r : Option ℕ) → r ≡ position (is_at (nat_cmp s)) xs → r ≡ None → has_session xs s ≡ false
 absent_by_place xs s r at none = position-none (is_at (nat_cmp s)) xs (sym at ∙ none)

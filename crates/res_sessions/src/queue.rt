@@ -136,10 +136,13 @@ impl SessionQueue {
         }
     }
 
-    /// How many sessions stand before this one.
+    /// How many sessions stand before this one. Where it is none of them, no session is looked at.
     fn place_of(&self, session: u64) -> Option<usize>
         ensures { result ≡ position (is_at (nat_cmp session)) self.now }
     {
+        if !self.contains(session) {
+            return None;
+        }
         self.sessions
             .iter()
             .position(|other| session.cmp(other).is_eq())

@@ -5,11 +5,13 @@ use Rattle.res_registry.proofs.visits.pass.Goals as goal
 pub returns-clause-told : goal.returns-clause-told
 returns-clause-told c =
     c.in_ok-told.ensures.told
-    ∙ (walked_passed c.args.time c.in_ok-names.names c.args.slots.now.entries c.args.ends.now c.requires.ends c.in_ok-names.ensures c.pass_all.ensures.ascending
+    ∙ (walked_passed c.args.time c.of-names.result c.args.slots.now.entries c.args.ends.now c.requires.ends (rw c.of-names.ensures c.in_ok-passed.ensures.keys)
+    c.pass_all.ensures.ascending
     c.requires.ascending).1
 
 pub returns-clause-after : goal.returns-clause-after
 returns-clause-after c =
     c.in_ok-told.ensures.after
-    ∙ (walked_passed c.args.time c.in_ok-names.names c.args.slots.now.entries c.args.ends.now c.requires.ends c.in_ok-names.ensures c.pass_all.ensures.ascending
+    ∙ (walked_passed c.args.time c.of-names.result c.args.slots.now.entries c.args.ends.now c.requires.ends (rw c.of-names.ensures c.in_ok-passed.ensures.keys)
+    c.pass_all.ensures.ascending
     c.requires.ascending).0

@@ -15,4 +15,4 @@ returns-in_ok-change-in-Some-clause-ends c =
     let w = c.pass.new.self in
     ends-written c.args.slots.now.entries (c.get_mut.follows.lender w).entries c.args.ends.now c.change.new.self c.args.name.now c.in-Some.slot.now w
     c.next_end-before.result c.next_end-after.result c.get_mut.ensures.ordered (sym c.in-Some.ensures.value) (c.get_mut.follows.holds w).0
-    c.next_end-before.ensures c.next_end-after.ensures c.in_ok-change-in-Some.ensures
+    c.next_end-before.ensures c.next_end-after.ensures c.in_ok-change-in-Some.ensures.ok

@@ -1,6 +1,6 @@
 use Rattle.std.proofs.Common.{ℕ, List, ap, ◌∙◌}
 use Rattle.spec_book.specs.Resources.{MapItem}
-use Rattle.res_map.specs.Deadlines.{first_end}
+use Rattle.res_map.specs.Lives.{first_end}
 use Rattle.res_map.proofs.First.{first_end-index}
 use Rattle.res_map.proofs.entries.Entries.first_end.Goals as goal
 

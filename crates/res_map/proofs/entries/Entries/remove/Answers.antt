@@ -1,9 +1,10 @@
-use Rattle.res_map.proofs.Index.{IsIndexed-remove}
+use Rattle.std.proofs.Common.{sym, Some}
+use Rattle.res_map.proofs.Index.{IsIndexed-removed}
 use Rattle.res_map.proofs.entries.Entries.remove.Goals as goal
 
-pub invariant_of-self : goal.invariant_of-self
-invariant_of-self c = (
+pub invariant_of-self-2 : goal.invariant_of-self-2
+invariant_of-self-2 c = (
   c.remove.ensures.ordered,
-  IsIndexed-remove c.self.inside.items.entries c.remove.new.self.entries c.self.inside.deadlines c.forget.new.self c.args.key c.end-end.result
-      c.self.invariant.1 (rw c.self.view_is c.end-end.ensures) c.remove.ensures.updates.0 c.forget.ensures,
+  IsIndexed-removed c.self.inside.items.entries c.remove.new.self.entries c.self.inside.deadlines c.forget.new.self c.args.key (Some c.in_ok-item.item)
+      c.self.invariant.1 (sym c.in_ok-item.ensures.value) c.remove.ensures.updates.0 (rw (← c.end.ensures) c.forget.ensures),
 )

@@ -1,5 +1,5 @@
 use Rattle.std.proofs.Common.{◌≡◌}
-use Rattle.res_map.specs.Deadlines.{without_keys}
+use Rattle.res_map.specs.Lives.{without_keys}
 use Rattle.res_map.proofs.entries.Entries.remove_all.Given as goal
 
 abbrev pub invariant-loop-key : goal.invariant-loop-key

@@ -1,4 +1,0 @@
-use Rattle.res_map.proofs.deadlines.Deadlines.forget.Goals as goal
-
-pub returns-in-Some : goal.returns-in-Some
-returns-in-Some c = λ time key. rw (c.in-Some.is, ← c.self.view_is) (c.remove.ensures.updates.0 (time, key))
