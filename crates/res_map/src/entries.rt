@@ -5,6 +5,7 @@ ghost use Rattle.std.specs.List.Sorted.{IsStrictlySortedBy};
 ghost use Rattle.std.specs.Map.{keys_of};
 ghost use Rattle.spec_book.specs.Dict.{bytes_cmp, found, with_entry, without_entry};
 ghost use Rattle.res_map.specs.Lives.{first_end, ended_keys, without_keys};
+ghost use Rattle.res_map.specs.Put.{put_at, entries_put};
 
 use crate::items::MapItem;
 use ax_types::{Duplicate, Key, NoMemory};
@@ -14,6 +15,20 @@ use std::collections::btree_map::Keys;
 use std::collections::{BTreeMap, BTreeSet};
 use std::marker::Model;
 use std::mem;
+
+/// The most entries of a map.
+pub const MAX_ENTRIES: usize = 1024;
+
+/// What comes of putting an item at a key.
+#[derive(Drop)]
+pub enum Put {
+    /// The key has none, and there is no room for it.
+    Full,
+    /// The key had none.
+    New,
+    /// The item that the key had.
+    Replaced(MapItem),
+}
 
 /// The entries of a map, which contracts see as their list in ascending order of key.
 #[derive(Drop)]
@@ -71,20 +86,23 @@ impl Entries {
         self.items.contains_key(key)
     }
 
-    /// Puts an item at a key. Answers what stood there. The entries are unchanged after want of memory.
-    pub fn set(&mut self, key: &Key, item: MapItem) -> Result<Option<MapItem>, NoMemory>
-        ensures old { IfOk result (λ old. old ≡ found self.old key.now) }
-        ensures ok { OnOk result (self.new ≡ with_entry self.old key.now item) }
+    /// Puts an item at a key, but no new key where there is no room. The entries are unchanged after want of memory.
+    pub fn put(&mut self, key: &Key, item: MapItem) -> Result<Put, NoMemory>
+        ensures put { IfOk result (λ put. put ≡ put_at self.old (found self.old key.now)) }
+        ensures ok { OnOk result (self.new ≡ entries_put key.now item self.old (found self.old key.now)) }
         ensures err { OnErr result (self.new ≡ self.old) }
     {
         match self.items.get_mut(key) {
             Some(there) => {
                 self.deadlines.change(key, there.end(), item.end())?;
-                Ok(Some(mem::replace(there, item)))
+                Ok(Put::Replaced(mem::replace(there, item)))
             }
             None => {
+                if self.items.len() >= MAX_ENTRIES {
+                    return Ok(Put::Full);
+                }
                 self.add(key, item)?;
-                Ok(None)
+                Ok(Put::New)
             }
         }
     }

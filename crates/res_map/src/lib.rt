@@ -7,4 +7,5 @@ mod map;
 #[cfg(test)]
 mod tests;
 
-pub use map::{MAX_ENTRIES, MapBox};
+pub use entries::MAX_ENTRIES;
+pub use map::MapBox;

@@ -2,20 +2,17 @@ ghost use Rattle.std.specs.Prelude.{◌≡◌, ℕ, ◌<◌, List as Items, ◌+
 ghost use Rattle.std.specs.Map.{keys_of};
 ghost use Rattle.spec_book.specs.Dict.{found};
 ghost use Rattle.spec_book.specs.Resources.{new_map, replied, tell};
-ghost use Rattle.spec_book.specs.MapTurn.{map_act, map_ask, map_unlistened, map_pass, map_passed, old_item, set_item, put_item, put_absent, replace_item, remove_item, lasting};
+ghost use Rattle.spec_book.specs.MapTurn.{map_act, map_ask, map_unlistened, map_pass, map_passed, put_item, put_absent, replace_item, remove_item, lasting};
 ghost use Rattle.res_map.specs.Lives.{first_end};
 ghost use Rattle.res_map.specs.Told.{tell_keys};
 
-use crate::entries::Entries;
+use crate::entries::{Entries, Put};
 use crate::items::{MapItem, Span};
 use ax_types::{Duplicate, Event, Key, List, MapOp, MapQuery, Name, NoMemory, Reply, Text, Turn};
 use res_sessions::Listeners;
 use std::alloc::Global;
 use std::collections::BTreeSet;
 use std::marker::Model;
-
-/// The most entries of a map.
-pub const MAX_ENTRIES: usize = 1024;
 
 /// A map: a text for each of its keys, which may have a life in log time, and the sessions that listen.
 #[derive(Drop)]
@@ -138,17 +135,6 @@ impl MapBox {
         }
     }
 
-    /// Puts an item at a key, replies what stood there, and tells of it.
-    fn set(&mut self, name: &Name, key: &Key, item: MapItem) -> Result<Turn, NoMemory>
-        ensures ok { IfOk result (λ turn. turn ≡ (set_item name.now key.now item (old_item (found self.old.entries key.now)) self.old).turn) }
-        ensures after { OnOk result (self.new ≡ (set_item name.now key.now item (old_item (found self.old.entries key.now)) self.old).state) }
-        ensures err { OnErr result (self.new ≡ self.old) }
-    {
-        let told = self.tell_changed(name, key, item.text())?;
-        let reply = old_text(self.entries.set(key, item)?);
-        Ok(Turn { reply, told })
-    }
-
     /// Puts a text at a key, with a life or none.
     fn put(
         &mut self,
@@ -161,10 +147,19 @@ impl MapBox {
         ensures after { OnOk result (self.new ≡ (put_item name.now key.now (record { text = text.now; life = life }) (found self.old.entries key.now) self.old).state) }
         ensures err { OnErr result (self.new ≡ self.old) }
     {
-        if self.entries.len() >= MAX_ENTRIES && !self.entries.contains(key) {
-            return Ok(self.quiet(Reply::Full));
+        let item = MapItem::new(text.copy()?, life);
+        let told = self.tell_changed(name, key, item.text())?;
+        match self.entries.put(key, item)? {
+            Put::Full => Ok(self.quiet(Reply::Full)),
+            Put::New => Ok(Turn {
+                reply: Reply::Nothing,
+                told,
+            }),
+            Put::Replaced(old) => Ok(Turn {
+                reply: Reply::Found(old.into_text()),
+                told,
+            }),
         }
-        self.set(name, key, MapItem::new(text.copy()?, life))
     }
 
     /// Puts a text at a key that has none.
@@ -189,7 +184,7 @@ impl MapBox {
         ensures err { OnErr result (self.new ≡ self.old) }
     {
         if self.entries.contains(key) {
-            self.set(name, key, MapItem::new(text.copy()?, None))
+            self.put(name, key, text, None)
         } else {
             Ok(self.quiet(Reply::Nothing))
         }
@@ -207,8 +202,13 @@ impl MapBox {
         let own = key.copy()?;
         let mut told = List::new(self.alloc);
         self.tell_removed(&mut told, name, key)?;
-        let reply = old_text(self.entries.remove(own));
-        Ok(Turn { reply, told })
+        match self.entries.remove(own) {
+            None => Ok(self.quiet(Reply::Nothing)),
+            Some(old) => Ok(Turn {
+                reply: Reply::Found(old.into_text()),
+                told,
+            }),
+        }
     }
 
     /// Takes all entries out, and tells of each in ascending order of key.
@@ -303,15 +303,5 @@ impl Duplicate for MapBox {
             entries: self.entries.copy()?,
             listeners: self.listeners.copy()?,
         })
-    }
-}
-
-/// What stood at a key, as a reply.
-fn old_text(old: Option<MapItem>) -> Reply
-    ensures { result ≡ old_item old }
-{
-    match old {
-        None => Reply::Nothing,
-        Some(item) => Reply::Found(item.into_text()),
     }
 }

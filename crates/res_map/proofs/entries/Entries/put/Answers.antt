@@ -6,7 +6,7 @@ use Rattle.spec_book.specs.Dict.{bytes_cmp, found}
 use Rattle.spec_book.specs.Resources.{MapItem}
 use Rattle.res_map.proofs.Index.{IsIndexed-changed}
 use Rattle.res_map.proofs.Written.{set_value-with}
-use Rattle.res_map.proofs.entries.Entries.set.Goals as goal
+use Rattle.res_map.proofs.entries.Entries.put.Goals as goal
 
 pub invariant_of-self : goal.invariant_of-self
 invariant_of-self c =
@@ -40,5 +40,5 @@ returns-in_ok-change-in-Some-clause-ok c =
     let w = c.replace.new.dest in
     let es : List (List ℕ × MapItem) = c.self.inside.items.entries in
     let there : found es c.args.key.now ≡ Some c.in-Some.there.now = sym c.in-Some.ensures.value in
-    rw (← c.self.view_is, ← c.replace.ensures.after)
+    rw (← c.self.view_is, there, ← c.replace.ensures.after)
     ((c.get_mut.follows.holds w).0 ∙ set_value-with es c.args.key.now c.in-Some.there.now w c.self.invariant.0 there)
