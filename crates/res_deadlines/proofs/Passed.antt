@@ -1,17 +1,18 @@
 -- The keys whose times have passed, at the front of the index.
-use Rattle.std.proofs.Common.{◌≡◌, ℕ, ◌≤◌, ◌<◌, ◌∙◌, refl, arith, Bool, true, false, cond, nat_le, ◌||◌, List, [], ◌∷◌, ◌++◌}
+use Rattle.std.proofs.Common.{◌≡◌, ℕ, ◌≤◌, ◌<◌, ◌∙◌, refl, sym, ap, arith, Bool, true, false, cond, nat_le, ◌&&◌, ◌||◌, List, [], ◌∷◌, ◌++◌, Some}
 use Rattle.std.specs.declared.cmp.Ordering.{Ordering}
 use Rattle.std.specs.declared.cmp.Ordering.TheVariants.{Less, Equal, Greater}
 use Rattle.std.specs.Ordering.{nat_cmp, is_gt, ordering_then}
 use Rattle.std.specs.Cmp.{IsTotalOrder}
-use Rattle.std.specs.List.{list_any, AllByRecursion}
+use Rattle.std.specs.List.{list_any, All, AllByRecursion}
 use Rattle.std.specs.List.Sorted.{IsStrictlySortedBy}
 use Rattle.std.specs.BTreeMap.{is_at}
 use Rattle.std.proofs.lemmas.Cmp.{eq_by_cmp_equiv}
 use Rattle.std.proofs.lemmas.Grind.{common_steps}
+use Rattle.std.proofs.lemmas.List.Elements.{recursion_from_All}
 use Rattle.std.proofs.lemmas.List.Folds.{list_any-append}
 use Rattle.std.proofs.lemmas.Map.Keys.{sorted_head, sorted_tail, le_from_not_gt}
-use Rattle.res_deadlines.specs.Deadlines.{deadline_cmp, has_passed}
+use Rattle.res_deadlines.specs.Deadlines.{deadline_cmp, any_passed, has_passed, first_time}
 
 or_false : (b : Bool) → (b || false) ≡ b
 or_false true = refl
@@ -67,3 +68,37 @@ module _ {K : Type 0} (order : K → K → Ordering) where
       let m : nat_le d.0 time ≡ true = grind (arith, common_steps) in
       let swapped : is_at (order key) d.1 ≡ is_at (order d.1) key = (eq_by_cmp_equiv total).symm key d.1 in
       rw (list_any-append, m) (adds key ∙ rw (so_far key, swapped) (cond_or (is_at (order d.1) key) (has_passed order time ds key)))
+
+  -- where no time has passed, no key has
+  pub has_passed-none : (time : ℕ) (ds : List (ℕ × K)) (key : K) → any_passed time ds ≡ false → has_passed order time ds key ≡ false
+  has_passed-none time [] key none = refl
+  has_passed-none time (d ∷ ds) key none = by_test (nat_le d.0 time) refl (has_passed-none time ds key)
+    where
+      by_test : (b : Bool) → nat_le d.0 time ≡ b → (any_passed time ds ≡ false → has_passed order time ds key ≡ false) → has_passed order time (d ∷ ds) key ≡ false
+      by_test true e more = let t : any_passed time (d ∷ ds) ≡ true = ap (λ (b : Bool). b || any_passed time ds) e in cc
+      by_test false e more =
+          let rest : any_passed time ds ≡ false = sym (ap (λ (b : Bool). b || any_passed time ds) e) ∙ none in
+          ap (λ (b : Bool). (b && is_at (order key) d.1) || has_passed order time ds key) e ∙ more rest
+
+-- no time has passed where the first of the others has not
+none_from : {K : Type 0} (time end : ℕ) (ds : List (ℕ × K)) → time < end → AllByRecursion (λ (d : ℕ × K). end ≤ d.0) ds → any_passed time ds ≡ false
+none_from time end [] above from = refl
+none_from time end (d ∷ ds) above from =
+    let le : end ≤ d.0 = from.0 in
+    let m : nat_le d.0 time ≡ false = grind (arith, common_steps) in
+    rw m (none_from time end ds above from.1)
+
+-- whether a time has passed, by the first
+pub any_passed-first : {K : Type 0} (time end : ℕ) (ds : List (ℕ × K)) → Some end ≡ first_time ds → All (λ (d : ℕ × K). end ≤ d.0) ds
+    → nat_le end time ≡ any_passed time ds
+any_passed-first time end [] is from = cc
+any_passed-first {K} time end (d ∷ ds) is from = by_test (nat_le end time) refl
+  where
+    same : end ≡ d.0
+    same = cc
+
+    by_test : (b : Bool) → nat_le end time ≡ b → b ≡ any_passed time (d ∷ ds)
+    by_test true e = sym (ap (λ (n : ℕ). nat_le n time || any_passed time ds) (sym same) ∙ ap (λ (b : Bool). b || any_passed time ds) e)
+    by_test false e =
+        let above : time < end = grind (arith, common_steps) in
+        sym (none_from time end (d ∷ ds) above (recursion_from_All (λ (x : ℕ × K). end ≤ x.0) (d ∷ ds) from))

@@ -45,6 +45,10 @@ ChangesDeadline {K} order old new at before after =
 abbrev pub has_passed : {K : Type 0} → (K → K → Ordering) → ℕ → List (ℕ × K) → K → Bool
 has_passed order time deadlines key = list_any (λ d. nat_le d.0 time && is_at (order key) d.1) deadlines
 
+-- whether the index has a time that is at most this one
+abbrev pub any_passed : {K : Type 0} → ℕ → List (ℕ × K) → Bool
+any_passed time deadlines = list_any (λ d. nat_le d.0 time) deadlines
+
 -- the time of the first of the index
 abbrev pub first_time : {K : Type 0} → List (ℕ × K) → Option ℕ
 first_time [] = None

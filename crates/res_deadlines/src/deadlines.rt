@@ -2,7 +2,7 @@ ghost use Rattle.std.specs.Prelude.{◌≡◌, ℕ, [], true, false, ◌≤◌, 
 ghost use Rattle.std.specs.List.{list_any, All, AllZip};
 ghost use Rattle.std.specs.List.Sorted.{IsStrictlySortedBy};
 ghost use Rattle.std.specs.BTreeMap.{is_at};
-ghost use Rattle.res_deadlines.specs.Deadlines.{ChangesDeadline, SetsDeadline, has_passed, first_time};
+ghost use Rattle.res_deadlines.specs.Deadlines.{ChangesDeadline, SetsDeadline, any_passed, has_passed, first_time};
 
 use ax_types::{Duplicate, NoMemory};
 use std::alloc::{AllocError, Global};
@@ -91,6 +91,16 @@ impl<K: Ord + Duplicate> Deadlines<K> {
         match self.pairs.first() {
             Some((end, _)) => Some(*end),
             None => None,
+        }
+    }
+
+    /// Whether a time is at most this one. Only the earliest is looked at.
+    pub fn any_passed(&self, time: u64) -> bool
+        ensures { result ≡ any_passed time self.now }
+    {
+        match self.first() {
+            Some(end) => end <= u128::from(time),
+            None => false,
         }
     }
 

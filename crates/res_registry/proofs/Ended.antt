@@ -8,7 +8,8 @@ use Rattle.std.proofs.lemmas.Bool.{false≢true, cases_lt, and_from, and_parts, 
 use Rattle.spec_book.specs.Dict.{bytes_cmp, found, has_text}
 use Rattle.spec_book.specs.Resources.{Resource, Acted}
 use Rattle.spec_book.specs.Book.{Book, unlistened, all_unlistened, resource_pass, pass, passed, resource_end, left, left_told}
-use Rattle.res_deadlines.specs.Deadlines.{has_deadline, has_passed}
+use Rattle.res_deadlines.specs.Deadlines.{any_passed, has_deadline, has_passed}
+use Rattle.res_deadlines.proofs.Passed.{has_passed-none}
 use Rattle.res_deadlines.proofs.Index.{is_eq-ordering_then}
 use Rattle.res_registry.specs.Indexes.{next_end, knows, HasEnds, session_names, HasNames}
 use Rattle.res_registry.specs.Single.{IsSingle, AreSingle}
@@ -98,6 +99,16 @@ pub walked_passed : (time : ℕ) (names : List (List ℕ)) (book : Book) (ends :
 walked_passed time names book ends has are ordered sorted =
     let w = walked_whole (pass_visit time) names book ordered sorted (idle_pass time names book ends has are) in
     (w.0, w.1 ∙ whole_passed time book)
+
+no_names : IsStrictlySortedBy bytes_cmp []
+unfolding IsStrictlySortedBy
+no_names = tt
+
+-- where no life has ended, nothing passes
+pub none_passed : (time : ℕ) (book : Book) (ends : List (ℕ × List ℕ)) → HasEnds book ends → any_passed time ends ≡ false
+    → IsStrictlySortedBy bytes_cmp (keys_of book) → (book ≡ pass time book) × ([] ≡ passed time book)
+none_passed time book ends has none sorted =
+    walked_passed time [] book ends has (λ name. sym (has_passed-none bytes_cmp time ends name none)) no_names sorted
 
 -- ---- a session that ended is known nowhere
 -- the three steps of a session's end at one resource

@@ -128,6 +128,9 @@ pub fn pass(
     ensures after { OnOk result (slots.new.entries ≡ pass time slots.old.entries) }
     ensures ends { OnOk result (HasEnds slots.new.entries ends.new) }
 {
+    if !ends.any_passed(time) {
+        return Ok(Vec::new(alloc));
+    }
     let names = Names::of(ends.passed(time)?);
     let told = pass_all(slots, ends, alloc, &names, time)?;
     Ok(told)

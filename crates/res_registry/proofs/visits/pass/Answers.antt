@@ -1,5 +1,6 @@
-use Rattle.std.proofs.Common.{◌∙◌}
-use Rattle.res_registry.proofs.Ended.{walked_passed}
+use Rattle.std.proofs.Common.{◌≡◌, ◌∙◌, [], false, sym, rules}
+use Rattle.res_deadlines.specs.Deadlines.{any_passed}
+use Rattle.res_registry.proofs.Ended.{none_passed, walked_passed}
 use Rattle.res_registry.proofs.visits.pass.Goals as goal
 
 pub returns-clause-told : goal.returns-clause-told
@@ -15,3 +16,14 @@ returns-clause-after c =
     ∙ (walked_passed c.args.time c.of-names.result c.args.slots.now.entries c.args.ends.now c.requires.ends (rw c.of-names.ensures c.in_ok-passed.ensures.keys)
     c.pass_all.ensures.ascending
     c.requires.ascending).0
+
+pub returns-then-not-any_passed-clause-told : goal.returns-then-not-any_passed-clause-told
+returns-then-not-any_passed-clause-told c =
+    let none : any_passed c.args.time c.args.ends.now ≡ false = sym c.any_passed.ensures ∙ c.if-not-any_passed.true in
+    let empty : c.new.result.items ≡ [] = search rules in
+    empty ∙ (none_passed c.args.time c.args.slots.now.entries c.args.ends.now c.requires.ends none c.requires.ascending).1
+
+pub returns-then-not-any_passed-clause-after : goal.returns-then-not-any_passed-clause-after
+returns-then-not-any_passed-clause-after c =
+    let none : any_passed c.args.time c.args.ends.now ≡ false = sym c.any_passed.ensures ∙ c.if-not-any_passed.true in
+    (none_passed c.args.time c.args.slots.now.entries c.args.ends.now c.requires.ends none c.requires.ascending).0
