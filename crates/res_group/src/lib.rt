@@ -1,9 +1,6 @@
 //! Groups, whose earliest member leads.
 #![tactic(auto)]
 
-#[cfg(test)]
-mod tests;
-
 ghost use Rattle.std.specs.Prelude.{◌≡◌, ℕ, false, true, ◌∷◌, [], ◌++◌, option_to_list, IfOk, OnOk, OnErr, slice_get};
 ghost use Rattle.spec_book.specs.Dict.{has_session, without_session};
 ghost use Rattle.spec_book.specs.Resources.{new_group, replied, tell};
@@ -313,3 +310,6 @@ fn leader_reply(leader: &Option<Lead>) -> Reply
         },
     }
 }
+
+#[cfg(test)]
+mod tests;

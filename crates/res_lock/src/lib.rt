@@ -1,9 +1,6 @@
 //! Locks, whose grants have fencing numbers.
 #![tactic(auto)]
 
-#[cfg(test)]
-mod tests;
-
 ghost use Rattle.std.specs.Prelude.{◌≡◌, ℕ, false, ◌∷◌, [], IfOk, OnOk, OnErr, IsSome, IsTrue};
 ghost use Rattle.spec_book.specs.Dict.{has_session, without_session};
 ghost use Rattle.spec_book.specs.Resources.{new_lock, replied};
@@ -286,3 +283,6 @@ fn holder_reply(holder: &Option<Grant>) -> Reply
         },
     }
 }
+
+#[cfg(test)]
+mod tests;
