@@ -6,7 +6,7 @@ ghost use Rattle.spec_report.specs.Items.{watch_text as watch_text_of};
 ghost use Rattle.spec_script.specs.Steps.{step_text as step_text_of};
 ghost use Rattle.ax_types.specs.declared.steps.Step.TheVariants as step;
 
-use ax_types::{ClientId, End, Level, Name, NoMemory, Op, Query, Step, WatchKind};
+use ax_types::{ClientId, End, Level, Name, NoMemory, NodeId, Op, Query, Step, WatchKind};
 use report_text::{op_text, query_text};
 use std::alloc::Global;
 
@@ -16,10 +16,34 @@ fn numbered(alloc: Global, word: &str, number: u64) -> Result<String, NoMemory>
     Ok(format!(in alloc; "{word} {number}")?)
 }
 
-fn twice_numbered(alloc: Global, word: &str, one: u64, other: u64) -> Result<String, NoMemory>
-    ensures { IfOk result (λ t. string_bytes t ≡ two_operands word.now (decimal one) (decimal other)) }
+fn of_node(alloc: Global, word: &str, node: NodeId) -> Result<String, NoMemory>
+    ensures { IfOk result (λ t. string_bytes t ≡ one_operand word.now (decimal node)) }
 {
-    Ok(format!(in alloc; "{word} {one} {other}")?)
+    Ok(format!(in alloc; "{word} {node}")?)
+}
+
+fn of_client(alloc: Global, word: &str, client: ClientId) -> Result<String, NoMemory>
+    ensures { IfOk result (λ t. string_bytes t ≡ one_operand word.now (decimal client)) }
+{
+    Ok(format!(in alloc; "{word} {client}")?)
+}
+
+fn clocked(alloc: Global, node: NodeId, time: u64) -> Result<String, NoMemory>
+    ensures { IfOk result (λ t. string_bytes t ≡ step_text_of (step.Clock node time)) }
+{
+    Ok(format!(in alloc; "clock {node} {time}")?)
+}
+
+fn shortened(alloc: Global, number: u64, bytes: u64) -> Result<String, NoMemory>
+    ensures { IfOk result (λ t. string_bytes t ≡ step_text_of (step.Short number bytes)) }
+{
+    Ok(format!(in alloc; "short {number} {bytes}")?)
+}
+
+fn connected(alloc: Global, word: &str, client: ClientId, node: NodeId) -> Result<String, NoMemory>
+    ensures { IfOk result (λ t. string_bytes t ≡ two_operands word.now (decimal client) (decimal node)) }
+{
+    Ok(format!(in alloc; "{word} {client} {node}")?)
 }
 
 fn linked(alloc: Global, word: &str, one: End, other: End) -> Result<String, NoMemory>
@@ -80,38 +104,23 @@ pub fn step_text(alloc: Global, step: &Step) -> Result<String, NoMemory>
     ensures { IfOk result (λ t. string_bytes t ≡ step_text_of step.now) }
 {
     match step {
-        Step::Elect { node } => numbered(alloc, "elect", u64::from(node.number())),
-        Step::Beat { node } => numbered(alloc, "beat", u64::from(node.number())),
-        Step::Crash { node } => numbered(alloc, "crash", u64::from(node.number())),
-        Step::Start { node } => numbered(alloc, "start", u64::from(node.number())),
-        Step::Clock { node, time } => twice_numbered(
-            alloc,
-            "clock",
-            u64::from(node.number()),
-            *time,
-        ),
-        Step::Expire { node } => numbered(alloc, "expire", u64::from(node.number())),
+        Step::Elect { node } => of_node(alloc, "elect", *node),
+        Step::Beat { node } => of_node(alloc, "beat", *node),
+        Step::Crash { node } => of_node(alloc, "crash", *node),
+        Step::Start { node } => of_node(alloc, "start", *node),
+        Step::Clock { node, time } => clocked(alloc, *node, *time),
+        Step::Expire { node } => of_node(alloc, "expire", *node),
         Step::Cut { one, other } => linked(alloc, "cut", *one, *other),
         Step::Join { one, other } => linked(alloc, "join", *one, *other),
         Step::Deliver { number } => numbered(alloc, "deliver", *number),
         Step::Drop { number } => numbered(alloc, "drop", *number),
-        Step::Short { number, bytes } => twice_numbered(alloc, "short", *number, *bytes),
+        Step::Short { number, bytes } => shortened(alloc, *number, *bytes),
         Step::List => Ok(String::from_str(alloc, "list")?),
-        Step::Open { client, node } => twice_numbered(
-            alloc,
-            "open",
-            u64::from(client.number()),
-            u64::from(node.number()),
-        ),
-        Step::Switch { client, node } => twice_numbered(
-            alloc,
-            "switch",
-            u64::from(client.number()),
-            u64::from(node.number()),
-        ),
-        Step::Resend { client } => numbered(alloc, "resend", u64::from(client.number())),
-        Step::Keep { client } => numbered(alloc, "keep", u64::from(client.number())),
-        Step::Close { client } => numbered(alloc, "close", u64::from(client.number())),
+        Step::Open { client, node } => connected(alloc, "open", *client, *node),
+        Step::Switch { client, node } => connected(alloc, "switch", *client, *node),
+        Step::Resend { client } => of_client(alloc, "resend", *client),
+        Step::Keep { client } => of_client(alloc, "keep", *client),
+        Step::Close { client } => of_client(alloc, "close", *client),
         Step::Watch { client, kind } => watched(alloc, *client, *kind),
         Step::Call { client, name, op } => called(alloc, *client, name, op),
         Step::Query {
