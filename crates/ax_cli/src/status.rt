@@ -1,12 +1,12 @@
 ghost use Rattle.std.specs.Prelude.{◌≡◌, IfOk, string_bytes};
-ghost use Rattle.ax_cli.specs.Statuses.{exit_number_of, status_text, why_word, report_why_word};
+ghost use Rattle.ax_cli.specs.ExitStatus as exit_status;
 
 use ax_types::{NoMemory, ReportWhy, Status, Why};
 use std::alloc::Global;
 
 /// The number that the process ends with.
 pub fn exit_number(status: &Status) -> u8
-    ensures { result ≡ exit_number_of status.now }
+    ensures { result ≡ exit_status.exit_number_of status.now }
 {
     match status {
         Status::Done => 0,
@@ -26,7 +26,7 @@ pub fn exit_number(status: &Status) -> u8
 
 /// The name of a reason.
 fn why_name(why: Why) -> &'static str
-    ensures { result.now ≡ why_word why }
+    ensures { result.now ≡ exit_status.why_word why }
 {
     match why {
         Why::Cluster => "Cluster",
@@ -39,7 +39,7 @@ fn why_name(why: Why) -> &'static str
 }
 
 fn report_why_name(why: ReportWhy) -> &'static str
-    ensures { result.now ≡ report_why_word why }
+    ensures { result.now ≡ exit_status.report_why_word why }
 {
     match why {
         ReportWhy::TooLong => "TooLong",
@@ -55,52 +55,52 @@ fn words(alloc: Global, text: &str) -> Result<String, NoMemory>
 }
 
 fn script_line(alloc: Global, line: u64, why: Why) -> Result<String, NoMemory>
-    ensures { IfOk result (λ t. string_bytes t ≡ status_text (Status.Script line why)) }
+    ensures { IfOk result (λ t. string_bytes t ≡ exit_status.status_text (Status.Script line why)) }
 {
     let name = why_name(why);
     Ok(format!(in alloc; "script: line {line}: {name}")?)
 }
 
 fn not_report_line(alloc: Global, why: ReportWhy) -> Result<String, NoMemory>
-    ensures { IfOk result (λ t. string_bytes t ≡ status_text (Status.NotReport why)) }
+    ensures { IfOk result (λ t. string_bytes t ≡ exit_status.status_text (Status.NotReport why)) }
 {
     let name = report_why_name(why);
     Ok(format!(in alloc; "report: {name}")?)
 }
 
 fn not_empty_line(alloc: Global, node: u8) -> Result<String, NoMemory>
-    ensures { IfOk result (λ t. string_bytes t ≡ status_text (Status.StoreNotEmpty node)) }
+    ensures { IfOk result (λ t. string_bytes t ≡ exit_status.status_text (Status.StoreNotEmpty node)) }
 {
     Ok(format!(in alloc; "store {node} not empty")?)
 }
 
 fn store_fault_line(alloc: Global, node: u8) -> Result<String, NoMemory>
-    ensures { IfOk result (λ t. string_bytes t ≡ status_text (Status.StoreFault node)) }
+    ensures { IfOk result (λ t. string_bytes t ≡ exit_status.status_text (Status.StoreFault node)) }
 {
     Ok(format!(in alloc; "store {node} fault")?)
 }
 
 fn step_limit_line(alloc: Global, line: u64) -> Result<String, NoMemory>
-    ensures { IfOk result (λ t. string_bytes t ≡ status_text (Status.StepLimit line)) }
+    ensures { IfOk result (λ t. string_bytes t ≡ exit_status.status_text (Status.StepLimit line)) }
 {
     Ok(format!(in alloc; "step limit at line {line}")?)
 }
 
 fn store_bad_line(alloc: Global, node: u8, at: u64) -> Result<String, NoMemory>
-    ensures { IfOk result (λ t. string_bytes t ≡ status_text (Status.StoreBad node at)) }
+    ensures { IfOk result (λ t. string_bytes t ≡ exit_status.status_text (Status.StoreBad node at)) }
 {
     Ok(format!(in alloc; "store {node} bad at {at}")?)
 }
 
 fn no_majority_line(alloc: Global, good: u8, nodes: u8) -> Result<String, NoMemory>
-    ensures { IfOk result (λ t. string_bytes t ≡ status_text (Status.NoMajority good nodes)) }
+    ensures { IfOk result (λ t. string_bytes t ≡ exit_status.status_text (Status.NoMajority good nodes)) }
 {
     Ok(format!(in alloc; "no majority: {good} of {nodes}")?)
 }
 
 /// The one line that is printed for a status on standard error, without its newline.
 pub fn status_line(alloc: Global, status: &Status) -> Result<String, NoMemory>
-    ensures { IfOk result (λ t. string_bytes t ≡ status_text status.now) }
+    ensures { IfOk result (λ t. string_bytes t ≡ exit_status.status_text status.now) }
 {
     match status {
         Status::Done => words(alloc, "done"),

@@ -4,6 +4,6 @@ use Rattle.ax_io.specs.declared.sources.ReadError.{ReadError}
 use Rattle.ax_io.specs.declared.sources.ReadError.TheVariants.{Failed, NoMemory}
 
 -- the text of it
-abbrev pub text_of : ReadError → List ℕ
-text_of Failed = codes "a read failed"
-text_of NoMemory = codes "no memory"
+abbrev pub read_error_text : ReadError → List ℕ
+read_error_text Failed = codes "a read failed"
+read_error_text NoMemory = codes "no memory"

@@ -1,5 +1,5 @@
 ghost use Rattle.std.specs.Prelude.{◌≡◌, ◌≤◌, Some, codes};
-ghost use Rattle.ax_io.specs.Count.{one_more};
+ghost use Rattle.ax_io.specs.Count as counts;
 
 use std::error::Error;
 use std::fmt;
@@ -43,7 +43,7 @@ impl Faults {
 
     /// Counts one more fault, and gives the answer of the call that failed.
     pub fn raise(&mut self) -> Failed
-        ensures counted { self.new ≡ one_more self.old }
+        ensures counted { self.new ≡ counts.one_more self.old }
         ensures never_falls { self.old ≤ self.new }
     {
         self.count = self.count.saturating_add(1);

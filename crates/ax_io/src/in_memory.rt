@@ -1,6 +1,6 @@
 ghost use Rattle.std.specs.Prelude.{◌≡◌, ◌⊎◌, min, [], length, take, Some, OnOk, OnErr, IfOk, IsErr, IsNone, IsTrue, ◌↔◌, unwrap_or};
-ghost use Rattle.ax_io.specs.Count.{Counted};
-ghost use Rattle.ax_io.specs.Content.{append_told, Moves, MovesNothing, TakesFront};
+ghost use Rattle.ax_io.specs.Count as counts;
+ghost use Rattle.ax_io.specs.Content as content;
 
 use super::{Failed, Faults, Sink, Source};
 use ax_types::List;
@@ -8,7 +8,7 @@ use std::alloc::Global;
 use std::marker::Model;
 
 /// A source of bytes in memory, which fails at given calls. Any call moves as many bytes as it can.
-#[derive(Debug, Drop)]
+#[derive(Drop)]
 pub struct MemSource {
     bytes: List<u8>,
     next: usize,
@@ -19,9 +19,9 @@ pub struct MemSource {
 
 impl Model for MemSource {
     ghost use Rattle.std.specs.Prelude.{drop, ◌≤◌, length};
-    ghost use Rattle.ax_io.specs.Memory.{MemInput};
+    ghost use Rattle.ax_io.specs.Memory as memory;
 
-    ghost Value = { MemInput };
+    ghost Value = { memory.MemInput };
 
     ghost view = { λ a. record {
       content = drop a.next a.bytes;
@@ -50,21 +50,21 @@ impl MemSource {
 }
 
 impl Source for MemSource {
-    ghost use Rattle.ax_io.specs.Memory.{fails_next, after_read, buffer_after_read};
+    ghost use Rattle.ax_io.specs.Memory as memory;
 
     ghost faults = { λ s. s.faults };
 
     ghost content = { λ s. Some s.content };
 
     fn read(&mut self, buf: &mut [u8]) -> Result<usize, Failed>
-        ensures counted { Counted self.old.faults self.new.faults result }
-        ensures ok { IfOk result (λ n. Moves (Some self.old.content) (Some self.new.content) n buf.old buf.new) }
-        ensures failed { OnErr result (MovesNothing (Some self.old.content) (Some self.new.content) buf.old buf.new) }
+        ensures counted { counts.Counted self.old.faults self.new.faults result }
+        ensures ok { IfOk result (λ n. content.Moves (Some self.old.content) (Some self.new.content) n buf.old buf.new) }
+        ensures failed { OnErr result (content.MovesNothing (Some self.old.content) (Some self.new.content) buf.old buf.new) }
 
-        ensures named { IsErr result ↔ IsTrue (fails_next self.old) }
+        ensures named { IsErr result ↔ IsTrue (memory.fails_next self.old) }
         ensures count { IfOk result (λ n. n ≡ min (length buf.old) (length self.old.content)) }
-        ensures after { self.new ≡ after_read self.old (length buf.old) }
-        ensures buffer { buf.new ≡ buffer_after_read self.old buf.old }
+        ensures after { self.new ≡ memory.after_read self.old (length buf.old) }
+        ensures buffer { buf.new ≡ memory.buffer_after_read self.old buf.old }
     {
         self.calls = self.calls.saturating_add(1);
         if self.failing.as_slice().contains(&self.calls) {
@@ -79,7 +79,7 @@ impl Source for MemSource {
 }
 
 /// A sink that keeps its bytes in memory, and fails at given calls. Want of memory is a fault of it.
-#[derive(Debug, Drop)]
+#[derive(Drop)]
 pub struct MemSink {
     taken: List<u8>,
     failing: List<(u64, u64)>,
@@ -88,9 +88,9 @@ pub struct MemSink {
 }
 
 impl Model for MemSink {
-    ghost use Rattle.ax_io.specs.Memory.{MemOutput};
+    ghost use Rattle.ax_io.specs.Memory as memory;
 
-    ghost Value = { MemOutput };
+    ghost Value = { memory.MemOutput };
 
     ghost view = { λ a. record {
       content = a.taken;
@@ -101,7 +101,7 @@ impl Model for MemSink {
 }
 
 impl MemSink {
-    ghost use Rattle.ax_io.specs.Memory.{kept_next};
+    ghost use Rattle.ax_io.specs.Memory as memory;
 
     /// A sink with no bytes. The first of each pair names a call that fails, counted from 1 over all
     /// calls of this sink, and the second is the number of bytes kept of that call, where it has so
@@ -126,7 +126,7 @@ impl MemSink {
 
     /// How many bytes are kept of the next call, where it is one that fails.
     fn kept_next(&self) -> Option<u64>
-        ensures { result ≡ kept_next self.now }
+        ensures { result ≡ memory.kept_next self.now }
     {
         let call = self.calls.saturating_add(1);
         self.failing
@@ -137,7 +137,7 @@ impl MemSink {
 }
 
 impl Sink for MemSink {
-    ghost use Rattle.ax_io.specs.Memory.{kept_next, after_put, after_fault};
+    ghost use Rattle.ax_io.specs.Memory as memory;
 
     ghost faults = { λ s. s.faults };
 
@@ -145,14 +145,14 @@ impl Sink for MemSink {
 
     // After want of memory nothing is kept, also of a call that fails by its number.
     fn put(&mut self, bytes: &[u8]) -> Result<(), Failed>
-        ensures counted { Counted self.old.faults self.new.faults result }
-        ensures ok { OnOk result (Some self.new.content ≡ append_told (Some self.old.content) bytes.now) }
-        ensures failed { OnErr result (TakesFront (Some self.old.content) (Some self.new.content) bytes.now) }
+        ensures counted { counts.Counted self.old.faults self.new.faults result }
+        ensures ok { OnOk result (Some self.new.content ≡ content.append_told (Some self.old.content) bytes.now) }
+        ensures failed { OnErr result (content.TakesFront (Some self.old.content) (Some self.new.content) bytes.now) }
 
-        ensures not_named { OnOk result (IsNone (kept_next self.old)) }
-        ensures after { OnOk result (self.new ≡ after_put self.old bytes.now) }
-        ensures after_failed { OnErr result ((self.new ≡ after_fault self.old [])
-            ⊎ (self.new ≡ after_fault self.old (take (unwrap_or (kept_next self.old) 0) bytes.now))) }
+        ensures not_named { OnOk result (IsNone (memory.kept_next self.old)) }
+        ensures after { OnOk result (self.new ≡ memory.after_put self.old bytes.now) }
+        ensures after_failed { OnErr result ((self.new ≡ memory.after_fault self.old [])
+            ⊎ (self.new ≡ memory.after_fault self.old (take (unwrap_or (memory.kept_next self.old) 0) bytes.now))) }
     {
         let kept = self.kept_next();
         self.calls = self.calls.saturating_add(1);

@@ -1,6 +1,6 @@
 ghost use Rattle.std.specs.Prelude.{◌≡◌, ℕ, ◌+◌, ◌<◌, ◌≤◌, List, length, [], Option, OnOk, OnErr, IfOk, IsErrOf, IfSome, vec_len};
-ghost use Rattle.ax_io.specs.Count.{Counted, Rose};
-ghost use Rattle.ax_io.specs.Content.{prepend_told, Moves, MovesNothing, ReadsFirst, LosesFront};
+ghost use Rattle.ax_io.specs.Count as counts;
+ghost use Rattle.ax_io.specs.Content as ax_io_content;
 ghost use Rattle.ax_io.specs.declared.sources.ReadError.TheVariants.{Failed as ReadFailed, NoMemory as WithoutMemory};
 
 use super::Failed;
@@ -20,9 +20,9 @@ pub trait Source {
     /// Moves some of the bytes still to come to the first places of `buf`, and gives their number.
     /// For a `buf` with places 0 means that no byte is left. After a failure nothing was moved.
     fn read(&mut self, buf: &mut [u8]) -> Result<usize, Failed>
-        ensures counted { Counted (faults self.old) (faults self.new) result }
-        ensures ok { IfOk result (λ n. Moves (content self.old) (content self.new) n buf.old buf.new) }
-        ensures failed { OnErr result (MovesNothing (content self.old) (content self.new) buf.old buf.new) };
+        ensures counted { counts.Counted (faults self.old) (faults self.new) result }
+        ensures ok { IfOk result (λ n. ax_io_content.Moves (content self.old) (content self.new) n buf.old buf.new) }
+        ensures failed { OnErr result (ax_io_content.MovesNothing (content self.old) (content self.new) buf.old buf.new) };
 }
 
 /// Why a source was not read to its end.
@@ -36,9 +36,9 @@ pub enum ReadError {
 
 impl fmt::Display for ReadError {
     ghost use Rattle.std.specs.Prelude.{Some};
-    ghost use Rattle.ax_io.specs.ReadError.{text_of};
+    ghost use Rattle.ax_io.specs.ReadError as read_errors;
 
-    ghost output = { λ e. Some (text_of e) };
+    ghost output = { λ e. Some (read_errors.read_error_text e) };
 
     fn fmt<W: fmt::Write>(&self, f: &mut fmt::Formatter<W>) -> fmt::Result {
         match self {
@@ -77,9 +77,9 @@ pub fn read_up_to<S: Source>(
     most: usize,
 ) -> Result<List<u8>, ReadError>
     ensures count { S.faults source.old ≤ S.faults source.new }
-    ensures failed { IsErrOf result ReadError.Failed → Rose (S.faults source.old) (S.faults source.new) }
-    ensures ok { IfOk result (ReadsFirst (S.content source.old) (S.content source.new) most) }
-    ensures lost { OnErr result (LosesFront (S.content source.old) (S.content source.new)) }
+    ensures failed { IsErrOf result ReadError.Failed → counts.Rose (S.faults source.old) (S.faults source.new) }
+    ensures ok { IfOk result (ax_io_content.ReadsFirst (S.content source.old) (S.content source.new) most) }
+    ensures lost { OnErr result (ax_io_content.LosesFront (S.content source.old) (S.content source.new)) }
 {
     let mut block = zeros(alloc, BLOCK)?;
     let mut bytes = Vec::new(alloc);
@@ -103,13 +103,13 @@ fn read_block<S: Source>(
     requires left { 0 < left }
     requires block { 0 < length block.old }
     ensures count { S.faults source.old ≤ S.faults source.new }
-    ensures failed { IsErrOf result ReadError.Failed → Rose (S.faults source.old) (S.faults source.new) }
+    ensures failed { IsErrOf result ReadError.Failed → counts.Rose (S.faults source.old) (S.faults source.new) }
     ensures within { IfOk result (λ n. (n ≤ left) × (vec_len bytes.new ≡ vec_len bytes.old + n)) }
     // The bytes that were read, and then those still to come, stay the same list.
-    ensures ok { OnOk result (prepend_told bytes.old.items (S.content source.old)
-        ≡ prepend_told bytes.new.items (S.content source.new)) }
+    ensures ok { OnOk result (ax_io_content.prepend_told bytes.old.items (S.content source.old)
+        ≡ ax_io_content.prepend_told bytes.new.items (S.content source.new)) }
     ensures ends { IfOk result (λ n. n ≡ 0 → IfSome (S.content source.new) (λ content. content ≡ [])) }
-    ensures lost { OnErr result (LosesFront (S.content source.old) (S.content source.new)) }
+    ensures lost { OnErr result (ax_io_content.LosesFront (S.content source.old) (S.content source.new)) }
 {
     let room = left.min(block.len());
     let n = source.read(&mut block[..room])?;

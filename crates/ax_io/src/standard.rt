@@ -1,7 +1,7 @@
 ghost use Rattle.std.specs.Prelude.{◌≡◌, ◌<◌, ◌≤◌, length, take, None, IfOk, OnOk, OnErr, IfSome};
 ghost use Rattle.std.specs.Io.KnownBytes.{Appends, Consumes, IsAtEnd};
-ghost use Rattle.ax_io.specs.Count.{Counted};
-ghost use Rattle.ax_io.specs.Content.{Moves, TakesFront};
+ghost use Rattle.ax_io.specs.Count as counts;
+ghost use Rattle.ax_io.specs.Content as content;
 
 use super::{Failed, Faults, Sink, Source};
 use std::io::{ErrorKind, Read, Write};
@@ -15,9 +15,9 @@ pub struct StdSource<R: Read> {
 }
 
 impl<R: Read> Model for StdSource<R> {
-    ghost use Rattle.ax_io.specs.Adapted.{Adapted};
+    ghost use Rattle.ax_io.specs.Adapted as adapted;
 
-    ghost Value = { Adapted R };
+    ghost Value = { adapted.Adapted R };
 
     ghost view = { λ a. record { inner = a.reader; faults = a.faults } };
 }
@@ -40,8 +40,8 @@ impl<R: Read> Source for StdSource<R> {
     ghost content = { λ _. None };
 
     fn read(&mut self, buf: &mut [u8]) -> Result<usize, Failed>
-        ensures counted { Counted self.old.faults self.new.faults result }
-        ensures ok { IfOk result (λ n. Moves None None n buf.old buf.new) }
+        ensures counted { counts.Counted self.old.faults self.new.faults result }
+        ensures ok { IfOk result (λ n. content.Moves None None n buf.old buf.new) }
 
         // Where it is known what the reader holds, that loses what was moved, and 0 is its end.
         ensures moved { IfOk result (λ n. Consumes
@@ -84,9 +84,9 @@ pub struct StdSink<W: Write> {
 }
 
 impl<W: Write> Model for StdSink<W> {
-    ghost use Rattle.ax_io.specs.Adapted.{Adapted};
+    ghost use Rattle.ax_io.specs.Adapted as adapted;
 
-    ghost Value = { Adapted W };
+    ghost Value = { adapted.Adapted W };
 
     ghost view = { λ a. record { inner = a.writer; faults = a.faults } };
 }
@@ -111,8 +111,8 @@ impl<W: Write> Sink for StdSink<W> {
     /// Writes all of the bytes, in as many writes as that takes, and flushes the writer, so that a
     /// full or closed output is noticed here. A write that takes nothing is a fault.
     fn put(&mut self, bytes: &[u8]) -> Result<(), Failed>
-        ensures counted { Counted self.old.faults self.new.faults result }
-        ensures failed { OnErr result (TakesFront None None bytes.now) }
+        ensures counted { counts.Counted self.old.faults self.new.faults result }
+        ensures failed { OnErr result (content.TakesFront None None bytes.now) }
 
         // Where it is known what the writer holds, it holds the bytes too.
         ensures taken { OnOk result (Appends

@@ -5,6 +5,6 @@ use Rattle.ax_types.specs.declared.ids.End.{End}
 use Rattle.ax_types.specs.declared.ids.End.TheVariants.{Node, Client}
 
 -- `nK` or `cC`
-abbrev pub end_text : End → List ℕ
-end_text (Node k) = 110 ∷ decimal k
-end_text (Client c) = 99 ∷ decimal c
+abbrev pub link_end_text : End → List ℕ
+link_end_text (Node k) = 110 ∷ decimal k
+link_end_text (Client c) = 99 ∷ decimal c

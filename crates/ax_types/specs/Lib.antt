@@ -1,3 +1,5 @@
-pub mod Forms
+pub mod Letters
 pub mod Places
 pub mod Ends
+pub mod Loads
+pub mod ItemTests

@@ -1,7 +1,7 @@
 use crate::{ClientId, Duplicate, Event, List, Name, NoMemory, NodeId, Op};
 
 /// What an entry of the log asks for (Ongaro 2014, 3.5 and 6.3).
-#[derive(Clone, Debug, PartialEq, Drop)]
+#[derive(Clone, Drop)]
 pub enum Body {
     Blank,
     Register {
@@ -37,7 +37,7 @@ impl Duplicate for Body {
 }
 
 /// An entry of a log: the term of the leader that made it, its log time, and what it asks for.
-#[derive(Clone, Debug, PartialEq, Drop)]
+#[derive(Clone, Drop)]
 pub struct Entry {
     pub term: u64,
     pub time: u64,
@@ -51,7 +51,7 @@ impl Duplicate for Entry {
 }
 
 /// What a committed entry did. A session is named by the place of its `Open`.
-#[derive(Clone, Debug, PartialEq, Drop)]
+#[derive(Clone, Drop)]
 pub enum Act {
     Nothing,
     Open { client: ClientId, opening: u64 },
@@ -68,7 +68,7 @@ impl Duplicate for Act {
 }
 
 /// The events that a session is told at one place, with the place of its batch before, or 0.
-#[derive(Clone, Debug, PartialEq, Drop)]
+#[derive(Clone, Drop)]
 pub struct Batch {
     pub place: u64,
     pub prev: u64,
@@ -82,7 +82,7 @@ impl Duplicate for Batch {
 }
 
 /// What a node's store has kept: the term, the vote in it, and the log.
-#[derive(Debug, PartialEq, Drop)]
+#[derive(Drop)]
 pub struct Loaded {
     pub term: u64,
     pub vote: Option<NodeId>,
@@ -90,7 +90,7 @@ pub struct Loaded {
 }
 
 /// What a store's upgrade found: the version of its journal, and the number of entries.
-#[derive(Clone, Copy, Debug, PartialEq, Eq)]
+#[derive(Clone, Copy)]
 pub struct Upgraded {
     pub version: u8,
     pub entries: u64,

@@ -1,25 +1,20 @@
 ghost use Rattle.std.specs.Prelude.{◌≡◌, ℕ, ◌≤◌, ◌<◌, ◌++◌, ◌∷◌, [], ◌↔◌, SomeIff, IsTrue, Some, codes};
 ghost use Rattle.std.specs.Option.{SomeIff};
-ghost use Rattle.ax_types.specs.declared.ids.TheConstants.{MAX_NODES, MAX_CLIENTS};
+ghost use Rattle.ax_types.specs.declared.limits.TheConstants.{MAX_NODES, MAX_CLIENTS};
 
+use crate::limits::{MAX_CLIENTS, MAX_NODES};
 use std::fmt;
 use std::marker::Model;
 
-/// The most nodes that a cluster has.
-pub const MAX_NODES: u8 = 9;
-
-/// The most clients that a cluster has.
-pub const MAX_CLIENTS: u8 = 16;
-
 /// A node of a cluster: a number from 1 to 9. It is written as its number.
-#[derive(Clone, Copy, Debug, PartialEq, Eq, PartialOrd, Ord, Hash)]
+#[derive(Clone, Copy, PartialEq)]
 pub struct NodeId {
     number: u8,
 }
 
 impl Model for NodeId {
     ghost use Rattle.std.specs.Prelude.{ℕ, ◌≤◌};
-    ghost use Rattle.ax_types.specs.declared.ids.TheConstants.{MAX_NODES};
+    ghost use Rattle.ax_types.specs.declared.limits.TheConstants.{MAX_NODES};
 
     ghost Value = { ℕ };
 
@@ -63,14 +58,14 @@ impl fmt::Display for NodeId {
 }
 
 /// A client of a cluster: a number from 1 to 16. It is written as its number.
-#[derive(Clone, Copy, Debug, PartialEq, Eq, PartialOrd, Ord, Hash)]
+#[derive(Clone, Copy, PartialEq)]
 pub struct ClientId {
     number: u8,
 }
 
 impl Model for ClientId {
     ghost use Rattle.std.specs.Prelude.{ℕ, ◌≤◌};
-    ghost use Rattle.ax_types.specs.declared.ids.TheConstants.{MAX_CLIENTS};
+    ghost use Rattle.ax_types.specs.declared.limits.TheConstants.{MAX_CLIENTS};
 
     ghost Value = { ℕ };
 
@@ -114,17 +109,17 @@ impl fmt::Display for ClientId {
 }
 
 /// An end of a link or a packet's way. It is written `nK` or `cC`.
-#[derive(Clone, Copy, Debug, PartialEq, Eq)]
+#[derive(Clone, Copy, PartialEq)]
 pub enum End {
     Node(NodeId),
     Client(ClientId),
 }
 
 impl fmt::Display for End {
-    ghost use Rattle.ax_types.specs.Ends.{end_text};
+    ghost use Rattle.ax_types.specs.Ends as ends;
     ghost use Rattle.std.specs.Prelude.{Some};
 
-    ghost output = { λ e. Some (end_text e) };
+    ghost output = { λ e. Some (ends.link_end_text e) };
 
     fn fmt<W: fmt::Write>(&self, f: &mut fmt::Formatter<W>) -> fmt::Result {
         match self {

@@ -4,7 +4,7 @@ use crate::{
 };
 
 /// Why a step was skipped.
-#[derive(Clone, Copy, Debug, PartialEq, Eq)]
+#[derive(Clone, Copy)]
 pub enum SkipReason {
     NodeDown,
     IsLeader,
@@ -21,7 +21,7 @@ pub enum SkipReason {
 }
 
 /// What a step shows: one line of the report.
-#[derive(Clone, Debug, PartialEq, Drop)]
+#[derive(Clone, Drop)]
 pub enum Item {
     Leader {
         node: NodeId,

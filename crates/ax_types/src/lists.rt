@@ -3,21 +3,14 @@ ghost use Rattle.std.specs.Option.{option_copied};
 ghost use Rattle.std.specs.Slice.Iter.{iter_rest};
 
 use std::alloc::{AllocError, AllocFailed, Global};
-use std::error::Error;
 use std::marker::Model;
-use std::{fmt, slice};
+use std::slice;
+use thiserror::Error;
 
 /// Memory was wanted and not had.
-#[derive(Clone, Copy, Debug, PartialEq, Eq)]
+#[derive(Clone, Copy, Debug, PartialEq, Error)]
+#[error("no memory")]
 pub struct NoMemory;
-
-impl fmt::Display for NoMemory {
-    fn fmt<W: fmt::Write>(&self, f: &mut fmt::Formatter<W>) -> fmt::Result {
-        f.write_str("no memory")
-    }
-}
-
-impl Error for NoMemory {}
 
 impl From<AllocError> for NoMemory {
     fn from(_error: AllocError) -> NoMemory {
@@ -51,7 +44,7 @@ impl Duplicate for u8 {
 }
 
 /// A list, which contracts see as the list of its items.
-#[derive(Debug, Drop)]
+#[derive(Drop)]
 pub struct List<T> {
     items: Vec<T>,
 }

@@ -1,7 +1,7 @@
 use crate::{Duplicate, Key, Life, Name, NoMemory, Text};
 
 /// The kind of a resource.
-#[derive(Clone, Copy, Debug, PartialEq, Eq)]
+#[derive(Clone, Copy, PartialEq)]
 pub enum Kind {
     Map,
     Value,
@@ -15,7 +15,7 @@ pub enum Kind {
 }
 
 /// What a client asks of a map.
-#[derive(Clone, Debug, PartialEq, Drop)]
+#[derive(Clone, PartialEq, Drop)]
 pub enum MapOp {
     Put { key: Key, text: Text },
     PutIfAbsent { key: Key, text: Text },
@@ -27,7 +27,7 @@ pub enum MapOp {
 }
 
 /// What a client asks of a value.
-#[derive(Clone, Debug, PartialEq, Drop)]
+#[derive(Clone, PartialEq, Drop)]
 pub enum ValueOp {
     Set { text: Text },
     Cas { expected: Text, text: Text },
@@ -36,7 +36,7 @@ pub enum ValueOp {
 }
 
 /// What a client asks of a long.
-#[derive(Clone, Copy, Debug, PartialEq, Eq)]
+#[derive(Clone, Copy, PartialEq)]
 pub enum LongOp {
     Add { delta: i64 },
     GetAndAdd { delta: i64 },
@@ -45,7 +45,7 @@ pub enum LongOp {
 }
 
 /// What a client asks of a lock.
-#[derive(Clone, Copy, Debug, PartialEq, Eq)]
+#[derive(Clone, Copy, PartialEq)]
 pub enum LockOp {
     Lock,
     TryLock,
@@ -54,7 +54,7 @@ pub enum LockOp {
 }
 
 /// What a client asks of a group.
-#[derive(Clone, Copy, Debug, PartialEq, Eq)]
+#[derive(Clone, Copy, PartialEq)]
 pub enum GroupOp {
     Join,
     Leave,
@@ -62,7 +62,7 @@ pub enum GroupOp {
 }
 
 /// What a client asks of a set.
-#[derive(Clone, Debug, PartialEq, Drop)]
+#[derive(Clone, PartialEq, Drop)]
 pub enum SetOp {
     Add { text: Text },
     Remove { text: Text },
@@ -70,14 +70,14 @@ pub enum SetOp {
 }
 
 /// What a client asks of a queue.
-#[derive(Clone, Debug, PartialEq, Drop)]
+#[derive(Clone, PartialEq, Drop)]
 pub enum QueueOp {
     Offer { text: Text },
     Poll,
 }
 
 /// What a client asks of a multimap.
-#[derive(Clone, Debug, PartialEq, Drop)]
+#[derive(Clone, PartialEq, Drop)]
 pub enum MultimapOp {
     Put { key: Key, text: Text },
     Remove { key: Key, text: Text },
@@ -85,7 +85,7 @@ pub enum MultimapOp {
 }
 
 /// What a client asks of a topic.
-#[derive(Clone, Debug, PartialEq, Drop)]
+#[derive(Clone, PartialEq, Drop)]
 pub enum TopicOp {
     Subscribe,
     Unsubscribe,
@@ -93,7 +93,7 @@ pub enum TopicOp {
 }
 
 /// What a client asks of a resource, by its kind.
-#[derive(Clone, Debug, PartialEq, Drop)]
+#[derive(Clone, PartialEq, Drop)]
 pub enum Op {
     Map(MapOp),
     Value(ValueOp),
@@ -113,7 +113,7 @@ impl Duplicate for Op {
 }
 
 /// What a client reads of a map.
-#[derive(Clone, Debug, PartialEq, Drop)]
+#[derive(Clone, Drop)]
 pub enum MapQuery {
     Get { key: Key },
     Contains { key: Key },
@@ -121,47 +121,47 @@ pub enum MapQuery {
 }
 
 /// What a client reads of a value.
-#[derive(Clone, Copy, Debug, PartialEq, Eq)]
+#[derive(Clone, Copy)]
 pub enum ValueQuery {
     Get,
 }
 
 /// What a client reads of a long.
-#[derive(Clone, Copy, Debug, PartialEq, Eq)]
+#[derive(Clone, Copy)]
 pub enum LongQuery {
     Get,
 }
 
 /// What a client reads of a lock.
-#[derive(Clone, Copy, Debug, PartialEq, Eq)]
+#[derive(Clone, Copy)]
 pub enum LockQuery {
     Holder,
     Waiting,
 }
 
 /// What a client reads of a group.
-#[derive(Clone, Copy, Debug, PartialEq, Eq)]
+#[derive(Clone, Copy)]
 pub enum GroupQuery {
     Members,
     Leader,
 }
 
 /// What a client reads of a set.
-#[derive(Clone, Debug, PartialEq, Drop)]
+#[derive(Clone, Drop)]
 pub enum SetQuery {
     Contains { text: Text },
     Size,
 }
 
 /// What a client reads of a queue.
-#[derive(Clone, Copy, Debug, PartialEq, Eq)]
+#[derive(Clone, Copy)]
 pub enum QueueQuery {
     Peek,
     Size,
 }
 
 /// What a client reads of a multimap.
-#[derive(Clone, Debug, PartialEq, Drop)]
+#[derive(Clone, Drop)]
 pub enum MultimapQuery {
     Contains { key: Key, text: Text },
     Count { key: Key },
@@ -169,13 +169,13 @@ pub enum MultimapQuery {
 }
 
 /// What a client reads of a topic.
-#[derive(Clone, Copy, Debug, PartialEq, Eq)]
+#[derive(Clone, Copy)]
 pub enum TopicQuery {
     Subscribers,
 }
 
 /// What a client reads of a resource, by its kind.
-#[derive(Clone, Debug, PartialEq, Drop)]
+#[derive(Clone, Drop)]
 pub enum Query {
     Map(MapQuery),
     Value(ValueQuery),
@@ -195,14 +195,14 @@ impl Duplicate for Query {
 }
 
 /// How fresh a query's answer has to be: sequential for its session, or linearizable (Ongaro 2014, 6.4).
-#[derive(Clone, Copy, Debug, PartialEq, Eq)]
+#[derive(Clone, Copy, PartialEq)]
 pub enum Level {
     Seq,
     Lin,
 }
 
 /// A call of a session: a command, which goes through the log, or a query, which does not.
-#[derive(Clone, Debug, PartialEq, Drop)]
+#[derive(Clone, Drop)]
 pub enum WindowCall {
     Command {
         name: Name,

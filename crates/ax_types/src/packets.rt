@@ -3,7 +3,7 @@ use crate::{
 };
 
 /// What a packet says. The first four are between nodes, the next seven ask a node, the last six tell a client.
-#[derive(Clone, Debug, PartialEq, Drop)]
+#[derive(Clone, Drop)]
 pub enum Payload {
     Vote {
         term: u64,
@@ -114,7 +114,7 @@ impl Duplicate for Payload {
 }
 
 /// A packet on its way.
-#[derive(Debug, PartialEq, Drop)]
+#[derive(Drop)]
 pub struct Packet {
     pub from: End,
     pub to: End,
@@ -132,7 +132,7 @@ impl Duplicate for Packet {
 }
 
 /// The kind of a payload.
-#[derive(Clone, Copy, Debug, PartialEq, Eq)]
+#[derive(Clone, Copy)]
 pub enum PayloadKind {
     Vote,
     VoteReply,

@@ -1,7 +1,7 @@
 use crate::{Body, Entry, List, NodeId, Packet, Payload};
 
 /// What a Raft node is asked to do. A clock is in units of log time.
-#[derive(Debug, PartialEq, Drop)]
+#[derive(Drop)]
 pub enum RaftInput {
     Elect {
         clock: u64,
@@ -20,7 +20,7 @@ pub enum RaftInput {
 }
 
 /// What a step of a node has to keep, in the order vote, cut, add, before anything else of it counts.
-#[derive(Debug, PartialEq, Drop)]
+#[derive(Drop)]
 pub struct Saves {
     /// The term and the vote in it, where one of them changed.
     pub vote: Option<(u64, Option<NodeId>)>,
@@ -30,7 +30,7 @@ pub struct Saves {
 }
 
 /// What a step of a Raft node gives.
-#[derive(Debug, PartialEq, Drop)]
+#[derive(Drop)]
 pub struct Out {
     pub saves: Saves,
     pub packets: List<Packet>,
@@ -45,14 +45,14 @@ pub struct Out {
 }
 
 /// What `cut_and_add` did to a log: the place of the first conflict, and how many entries were new.
-#[derive(Clone, Copy, Debug, PartialEq, Eq)]
+#[derive(Clone, Copy)]
 pub struct Change {
     pub cut: Option<u64>,
     pub added: u64,
 }
 
 /// What a node of a cluster of Raft nodes alone is asked to do.
-#[derive(Debug, PartialEq, Drop)]
+#[derive(Drop)]
 pub enum NodeInput {
     Elect {
         node: NodeId,
@@ -82,7 +82,7 @@ pub enum NodeInput {
 }
 
 /// A step of a cluster of Raft nodes alone.
-#[derive(Debug, PartialEq, Drop)]
+#[derive(Drop)]
 pub enum RaftStep {
     Made {
         input: NodeInput,

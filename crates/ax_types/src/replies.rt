@@ -1,7 +1,10 @@
+ghost use Rattle.std.specs.Prelude.{◌≡◌, []};
+
 use crate::{Duplicate, Key, Level, List, Name, NoMemory, Text};
+use std::alloc::Global;
 
 /// What a command or a query is answered.
-#[derive(Clone, Debug, PartialEq, Drop)]
+#[derive(Clone, PartialEq, Drop)]
 pub enum Reply {
     Done,
     Nothing,
@@ -23,6 +26,17 @@ pub enum Reply {
     WrongKind,
 }
 
+impl From<bool> for Reply {
+    ghost use Rattle.std.specs.Prelude.{if◌then◌else◌};
+    ghost use Rattle.ax_types.specs.declared.replies.Reply.TheVariants as reply;
+
+    ghost from_gives = { λ b r. r ≡ (if b then reply.Yes else reply.No) };
+
+    fn from(holds: bool) -> Reply {
+        if holds { Reply::Yes } else { Reply::No }
+    }
+}
+
 impl Duplicate for Reply {
     fn copy(&self) -> Result<Reply, NoMemory> {
         Ok(self.clone()?)
@@ -30,7 +44,7 @@ impl Duplicate for Reply {
 }
 
 /// What a session that listens is told of a resource.
-#[derive(Clone, Debug, PartialEq, Drop)]
+#[derive(Clone, PartialEq, Drop)]
 pub enum Event {
     Changed { name: Name, key: Key, text: Text },
     Removed { name: Name, key: Key },
@@ -50,21 +64,33 @@ impl Duplicate for Event {
 }
 
 /// What an act at a resource gives: the reply, and the sessions that are told, each with its event, in order.
-#[derive(Debug, PartialEq, Drop)]
+#[derive(Drop)]
 pub struct Turn {
     pub reply: Reply,
     pub told: List<(u64, Event)>,
 }
 
+impl Turn {
+    /// A reply of which nobody is told.
+    pub fn quiet(alloc: Global, reply: Reply) -> Turn
+        ensures { result ≡ record { reply = reply; told = [] } }
+    {
+        Turn {
+            reply,
+            told: List::new(alloc),
+        }
+    }
+}
+
 /// How a session ended.
-#[derive(Clone, Copy, Debug, PartialEq, Eq)]
+#[derive(Clone, Copy, PartialEq)]
 pub enum How {
     Closed,
     Expired,
 }
 
 /// What became of a call. `Stopped` is what a pump that has stopped answers.
-#[derive(Clone, Debug, PartialEq, Drop)]
+#[derive(Clone, Drop)]
 pub enum Outcome {
     Reply {
         place: u64,

@@ -1,7 +1,7 @@
 use crate::{Act, ClientId, Item, List, NodeId, Step, WatchKind, WindowCall};
 
 /// A line of a script after its cluster line.
-#[derive(Debug, PartialEq, Drop)]
+#[derive(Drop)]
 pub enum Line {
     Do(Step),
     /// Delivers, again and again, the first packet that can be delivered.
@@ -11,7 +11,7 @@ pub enum Line {
 }
 
 /// The calls of a caller: `count` times `call`, appended to the list of caller `caller`.
-#[derive(Debug, PartialEq, Drop)]
+#[derive(Drop)]
 pub struct CallerLine {
     pub line: u64,
     pub caller: u8,
@@ -20,7 +20,7 @@ pub struct CallerLine {
 }
 
 /// A script that was read.
-#[derive(Debug, PartialEq, Drop)]
+#[derive(Drop)]
 pub struct Script {
     pub nodes: u8,
     pub clients: u8,
@@ -37,7 +37,7 @@ pub struct Script {
 }
 
 /// What the words of a command line ask for. A folder is its path.
-#[derive(Debug, PartialEq, Drop)]
+#[derive(Drop)]
 pub enum Command {
     Run {
         json: bool,
@@ -66,14 +66,14 @@ pub enum Command {
 }
 
 /// How a run ended: all lines were run, or the line needed one step more than the limit.
-#[derive(Clone, Copy, Debug, PartialEq, Eq)]
+#[derive(Clone, Copy)]
 pub enum RunEnd {
     Done,
     StepLimit { line: u64 },
 }
 
 /// What a report says: the items, the history, the calls without an outcome (session and number), and the end.
-#[derive(Debug, PartialEq, Drop)]
+#[derive(Drop)]
 pub struct Report {
     pub items: List<Item>,
     pub history: List<(u64, Act)>,

@@ -6,7 +6,7 @@ use crate::{
 };
 
 /// What is known of a session (Ongaro 2014, 6.3).
-#[derive(Clone, Copy, Debug, PartialEq, Eq)]
+#[derive(Clone, Copy)]
 pub enum SessionState {
     Unknown,
     Live,
@@ -14,7 +14,7 @@ pub enum SessionState {
 }
 
 /// A reply that is kept for a command that comes again.
-#[derive(Debug, PartialEq, Drop)]
+#[derive(Drop)]
 pub struct KeptReply {
     pub seq: u64,
     pub place: u64,
@@ -24,7 +24,7 @@ pub struct KeptReply {
 }
 
 /// What a committed entry did, and what is answered and told.
-#[derive(Debug, PartialEq, Drop)]
+#[derive(Drop)]
 pub struct Applied {
     pub act: Act,
     pub reply: Option<Reply>,
@@ -34,7 +34,7 @@ pub struct Applied {
 }
 
 /// What a query is answered.
-#[derive(Debug, PartialEq, Drop)]
+#[derive(Drop)]
 pub enum Asked {
     Answer {
         place: u64,
@@ -48,7 +48,7 @@ pub enum Asked {
 }
 
 /// A query that waits until a server's state is new enough for it.
-#[derive(Debug, PartialEq, Drop)]
+#[derive(Drop)]
 pub struct Held {
     pub client: ClientId,
     pub session: u64,
@@ -63,7 +63,7 @@ pub struct Held {
 }
 
 /// What a server node is asked to do. A clock is in units of log time.
-#[derive(Debug, PartialEq, Drop)]
+#[derive(Drop)]
 pub enum ServerInput {
     Elect { clock: u64 },
     Beat { clock: u64 },
@@ -72,7 +72,7 @@ pub enum ServerInput {
 }
 
 /// What a step of a server node gives.
-#[derive(Debug, PartialEq, Drop)]
+#[derive(Drop)]
 pub struct ServerOut {
     pub saves: Saves,
     pub packets: List<Packet>,
@@ -94,7 +94,7 @@ pub trait Ready {
 }
 
 /// A call as the sequencer is told of it. A query has no sequence, a command no level.
-#[derive(Clone, Copy, Debug, PartialEq, Eq)]
+#[derive(Clone, Copy)]
 pub struct AskedCall {
     pub number: u64,
     pub seq: Option<u64>,
@@ -102,7 +102,7 @@ pub struct AskedCall {
 }
 
 /// The answer that a call has got.
-#[derive(Debug, PartialEq, Drop)]
+#[derive(Drop)]
 pub struct Got {
     pub place: u64,
     pub events: u64,
@@ -111,7 +111,7 @@ pub struct Got {
 }
 
 /// What became of a batch of events at a client.
-#[derive(Clone, Copy, Debug, PartialEq, Eq)]
+#[derive(Clone, Copy)]
 pub enum Heard {
     Old,
     Taken,
@@ -119,14 +119,14 @@ pub enum Heard {
 }
 
 /// The answers that are released in order, and the query that is asked again.
-#[derive(Debug, PartialEq, Drop)]
+#[derive(Drop)]
 pub struct Released {
     pub items: List<(u64, Got)>,
     pub again: Option<u64>,
 }
 
 /// The state of a client.
-#[derive(Clone, Copy, Debug, PartialEq, Eq)]
+#[derive(Clone, Copy)]
 pub enum ClientState {
     NoneYet,
     Opening,
@@ -136,7 +136,7 @@ pub enum ClientState {
 }
 
 /// What a step of a client gives: its items, and the requests that it sends, each with its node.
-#[derive(Debug, PartialEq, Drop)]
+#[derive(Drop)]
 pub struct ClientOut {
     pub items: List<Item>,
     pub sends: List<(NodeId, Payload)>,

@@ -1,5 +1,7 @@
+use thiserror::Error;
+
 /// Why a script was refused.
-#[derive(Clone, Copy, Debug, PartialEq, Eq)]
+#[derive(Clone, Copy, Debug, PartialEq)]
 pub enum Why {
     Cluster,
     LineTooLong,
@@ -11,15 +13,18 @@ pub enum Why {
 }
 
 /// Why an input was no report.
-#[derive(Clone, Copy, Debug, PartialEq, Eq)]
+#[derive(Clone, Copy, Debug, PartialEq, Error)]
 pub enum ReportWhy {
+    #[error("longer than a report may be")]
     TooLong,
+    #[error("not JSON")]
     Json,
+    #[error("not of the form of a report")]
     Shape,
 }
 
 /// How a run of the program ended.
-#[derive(Clone, Copy, Debug, PartialEq, Eq)]
+#[derive(Clone, Copy, Debug, PartialEq)]
 pub enum Status {
     Done,
     Usage,

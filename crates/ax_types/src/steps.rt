@@ -1,7 +1,7 @@
 use crate::{ClientId, Duplicate, End, Level, Name, NoMemory, NodeId, Op, Query};
 
 /// Which events a watch holds.
-#[derive(Clone, Copy, Debug, PartialEq, Eq)]
+#[derive(Clone, Copy, PartialEq)]
 pub enum WatchKind {
     All,
     Changes,
@@ -9,7 +9,7 @@ pub enum WatchKind {
 }
 
 /// One step of a script.
-#[derive(Clone, Debug, PartialEq, Drop)]
+#[derive(Clone, Drop)]
 pub enum Step {
     Elect {
         node: NodeId,
@@ -90,7 +90,7 @@ impl Duplicate for Step {
 }
 
 /// How the stores fared in a step.
-#[derive(Clone, Copy, Debug, PartialEq, Eq)]
+#[derive(Clone, Copy)]
 pub enum StepOutcome {
     Fine,
     /// A store call failed, after this many store calls of the step that succeeded.
@@ -100,7 +100,7 @@ pub enum StepOutcome {
 }
 
 /// A step that was made, with how the stores fared in it.
-#[derive(Debug, PartialEq, Drop)]
+#[derive(Drop)]
 pub struct KeptStep {
     pub step: Step,
     pub outcome: StepOutcome,

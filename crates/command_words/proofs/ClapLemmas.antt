@@ -9,20 +9,20 @@ use Rattle.clap.specs.Simple.{App, is_simple}
 use Rattle.clap.specs.Values.{kind_of}
 use Rattle.clap.specs.Walk.{is_empty}
 use Rattle.clap.proofs.OnLiterals.{clap_on_literals}
-use Rattle.spec_words.specs.CommandLine.{axrun}
+use Rattle.spec_command.specs.CommandLine as command_lines
 
-pub axrun_is_simple : is_simple axrun ≡ true
-unfolding clap_on_literals axrun
+pub axrun_is_simple : is_simple command_lines.axrun ≡ true
+unfolding clap_on_literals command_lines.axrun
 axrun_is_simple = refl
 
-pub axrun_is_simple_and_free : is_simple_and_free axrun ≡ true
-unfolding clap_on_literals axrun
+pub axrun_is_simple_and_free : is_simple_and_free command_lines.axrun ≡ true
+unfolding clap_on_literals command_lines.axrun
 axrun_is_simple_and_free = refl
 
-pub is_simple-line : (line : App) → line ≡ axrun → is_simple line ≡ true
+pub is_simple-line : (line : App) → line ≡ command_lines.axrun → is_simple line ≡ true
 is_simple-line line e = ap is_simple e ∙ axrun_is_simple
 
-pub is_simple_and_free-line : (line : App) → line ≡ axrun → is_simple_and_free line ≡ true
+pub is_simple_and_free-line : (line : App) → line ≡ command_lines.axrun → is_simple_and_free line ≡ true
 is_simple_and_free-line line e = ap is_simple_and_free e ∙ axrun_is_simple_and_free
 
 -- an error that is no want of memory has a kind among the faults, so there are some

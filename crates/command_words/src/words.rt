@@ -2,11 +2,12 @@ ghost use Rattle.std.specs.Prelude.{◌≡◌, IfOk, map, string_bytes, true, fa
 ghost use Rattle.clap.specs.Simple.{app_of, with_rule};
 ghost use Rattle.clap.specs.Walk.{first_of, rows_of};
 ghost use Rattle.clap.specs.Matches.{found_of};
-ghost use Rattle.spec_text.specs.Numbers.{both, number_within, timeout_of};
-ghost use Rattle.spec_words.specs.CommandLine.{audit_of, axrun, command_by as command_by_of, command_in, command_of_words, flag, gen_of, given as given_of, is_set as is_set_of, option, plain_axrun, positional, race_of, run_in_of, run_of, salvage_of, takes_only as takes_only_of, upgrade_of};
-ghost use Rattle.command_words.specs.Answers.{Answers, Parses};
-ghost use Rattle.command_words.specs.Given.{given_behind, text_behind};
+ghost use Rattle.spec_text.specs.Words as text_words;
+ghost use Rattle.spec_command.specs.CommandLine as command_lines;
+ghost use Rattle.command_words.specs.Meaning as meaning;
+ghost use Rattle.command_words.specs.Given as command_words_given;
 
+use ax_types::limits::{MAX_NODES, MAX_SEED, MAX_TIMEOUT};
 use ax_types::{Command, List, NoMemory};
 use clap::error::ErrorKind;
 use clap::{Arg, ArgAction, ArgMatches};
@@ -14,7 +15,7 @@ use std::alloc::{AllocError, Global};
 use text_words::{is, number};
 
 /// Why words give no command.
-#[derive(Clone, Copy, Debug, PartialEq, Eq)]
+#[derive(Clone, Copy)]
 pub enum WordsRefused {
     /// They are no words of a command.
     Usage,
@@ -32,7 +33,7 @@ impl From<NoMemory> for WordsRefused {
 }
 
 fn plain_command<'a>(alloc: Global) -> clap::Command<'a>
-    ensures { app_of result ≡ plain_axrun }
+    ensures { app_of result ≡ command_lines.plain_axrun }
 {
     clap::Command::new(alloc, "axrun")
         .no_binary_name(true)
@@ -46,7 +47,7 @@ fn with_positional<'a>(
     name: &'a str,
     required: bool,
 ) -> Result<clap::Command<'a>, AllocError>
-    ensures { IfOk result (λ c. app_of c ≡ with_rule (app_of command.entry) (positional name.now required)) }
+    ensures { IfOk result (λ c. app_of c ≡ with_rule (app_of command.entry) (command_lines.positional name.now required)) }
 {
     let arg = Arg::new(alloc, name)
         .required(required)
@@ -59,7 +60,7 @@ fn with_flag<'a>(
     command: clap::Command<'a>,
     name: &'a str,
 ) -> Result<clap::Command<'a>, AllocError>
-    ensures { IfOk result (λ c. app_of c ≡ with_rule (app_of command.entry) (flag name.now)) }
+    ensures { IfOk result (λ c. app_of c ≡ with_rule (app_of command.entry) (command_lines.flag name.now)) }
 {
     let arg = Arg::new(alloc, name).long(name).action(ArgAction::SetTrue);
     command.arg(arg)
@@ -70,15 +71,15 @@ fn with_option<'a>(
     command: clap::Command<'a>,
     name: &'a str,
 ) -> Result<clap::Command<'a>, AllocError>
-    ensures { IfOk result (λ c. app_of c ≡ with_rule (app_of command.entry) (option name.now)) }
+    ensures { IfOk result (λ c. app_of c ≡ with_rule (app_of command.entry) (command_lines.option name.now)) }
 {
     let arg = Arg::new(alloc, name).long(name).action(ArgAction::Set);
     command.arg(arg)
 }
 
-#[tactic(auto, unfolding(spec_words::specs::CommandLine::axrun))]
+#[tactic(auto, unfolding(spec_command::specs::CommandLine::axrun))]
 fn command_line<'a>(alloc: Global) -> Result<clap::Command<'a>, AllocError>
-    ensures { IfOk result (λ c. app_of c ≡ axrun) }
+    ensures { IfOk result (λ c. app_of c ≡ command_lines.axrun) }
 {
     let command = with_positional(alloc, plain_command(alloc), "command", true)?;
     let command = with_positional(alloc, command, "operand", false)?;
@@ -90,7 +91,7 @@ fn command_line<'a>(alloc: Global) -> Result<clap::Command<'a>, AllocError>
 
 /// What `clap` finds in the words.
 fn parsed(alloc: Global, words: &[String]) -> Result<ArgMatches<'_>, WordsRefused>
-    ensures { Parses (map string_bytes words.now) result }
+    ensures { meaning.Parses (map string_bytes words.now) result }
 {
     let Ok(line) = command_line(alloc) else {
         return Err(WordsRefused::NoMemory);
@@ -115,13 +116,13 @@ struct Given<'a> {
 }
 
 fn value<'a>(matches: &ArgMatches<'a>, id: &str) -> Option<&'a str>
-    ensures { text_behind result ≡ first_of id.now (rows_of (found_of matches.now)) }
+    ensures { command_words_given.text_behind result ≡ first_of id.now (rows_of (found_of matches.now)) }
 {
     matches.get_str(id)
 }
 
 fn is_set(value: Option<&str>) -> bool
-    ensures { result ≡ is_set_of (text_behind value.entry) }
+    ensures { result ≡ command_lines.is_set (command_words_given.text_behind value.entry) }
 {
     match value {
         Some(text) => text == "true",
@@ -130,7 +131,7 @@ fn is_set(value: Option<&str>) -> bool
 }
 
 fn all_given<'a>(matches: &ArgMatches<'a>) -> Given<'a>
-    ensures { given_behind result ≡ given_of (rows_of (found_of matches.now)) }
+    ensures { command_words_given.given_behind result ≡ command_lines.operands (rows_of (found_of matches.now)) }
 {
     Given {
         operand: value(matches, "operand"),
@@ -148,14 +149,14 @@ fn folder(alloc: Global, operand: &str) -> Result<List<u8>, NoMemory>
 }
 
 fn number_in(value: Option<&str>, low: u64, high: u64) -> Option<u64>
-    ensures { result ≡ option_and_then (number_within low high) (text_behind value.entry) }
+    ensures { result ≡ option_and_then (text_words.number_within low high) (command_words_given.text_behind value.entry) }
 {
     number(value?.as_bytes(), low, high)
 }
 
 /// Whether no flag or option is given but those that the command takes.
 fn takes_only(json: bool, steps: bool, options: bool, given: &Given<'_>) -> bool
-    ensures { result ≡ takes_only_of json steps options (given_behind given.now) }
+    ensures { result ≡ command_lines.takes_only json steps options (command_words_given.given_behind given.now) }
 {
     (json || !given.json)
         && ((steps || !given.steps)
@@ -163,7 +164,7 @@ fn takes_only(json: bool, steps: bool, options: bool, given: &Given<'_>) -> bool
 }
 
 fn run(given: &Given<'_>) -> Option<Command>
-    ensures { result ≡ run_of (given_behind given.now) }
+    ensures { result ≡ command_lines.run_of (command_words_given.given_behind given.now) }
 {
     if takes_only(true, false, false, given) && given.operand.is_none() {
         Some(Command::Run { json: given.json })
@@ -173,7 +174,7 @@ fn run(given: &Given<'_>) -> Option<Command>
 }
 
 fn run_in(alloc: Global, given: &Given<'_>) -> Result<Option<Command>, NoMemory>
-    ensures { IfOk result (λ read. read ≡ run_in_of (given_behind given.now)) }
+    ensures { IfOk result (λ read. read ≡ command_lines.run_in_of (command_words_given.given_behind given.now)) }
 {
     if !takes_only(true, false, false, given) {
         return Ok(None);
@@ -188,18 +189,18 @@ fn run_in(alloc: Global, given: &Given<'_>) -> Result<Option<Command>, NoMemory>
 }
 
 fn generate(given: &Given<'_>) -> Option<Command>
-    ensures { result ≡ gen_of (given_behind given.now) }
+    ensures { result ≡ command_lines.gen_of (command_words_given.given_behind given.now) }
 {
     if !takes_only(false, false, false, given) {
         return None;
     }
     Some(Command::Gen {
-        seed: number_in(given.operand, 0, 2_147_483_647)? as u32,
+        seed: number_in(given.operand, 0, u64::from(MAX_SEED))? as u32,
     })
 }
 
 fn race(given: &Given<'_>) -> Option<Command>
-    ensures { result ≡ race_of (given_behind given.now) }
+    ensures { result ≡ command_lines.race_of (command_words_given.given_behind given.now) }
 {
     if takes_only(false, true, false, given) && given.operand.is_none() {
         Some(Command::Race { steps: given.steps })
@@ -209,7 +210,7 @@ fn race(given: &Given<'_>) -> Option<Command>
 }
 
 fn upgrade(alloc: Global, given: &Given<'_>) -> Result<Option<Command>, NoMemory>
-    ensures { IfOk result (λ read. read ≡ upgrade_of (given_behind given.now)) }
+    ensures { IfOk result (λ read. read ≡ command_lines.upgrade_of (command_words_given.given_behind given.now)) }
 {
     if !takes_only(false, false, false, given) {
         return Ok(None);
@@ -223,25 +224,25 @@ fn upgrade(alloc: Global, given: &Given<'_>) -> Result<Option<Command>, NoMemory
 }
 
 fn audit(given: &Given<'_>) -> Option<Command>
-    ensures { result ≡ audit_of (given_behind given.now) }
+    ensures { result ≡ command_lines.audit_of (command_words_given.given_behind given.now) }
 {
     if !takes_only(false, false, false, given) {
         return None;
     }
     Some(Command::Audit {
-        timeout: number_in(given.operand, 1, 1_000_000_000)?,
+        timeout: number_in(given.operand, 1, MAX_TIMEOUT)?,
     })
 }
 
 fn sizes(given: &Given<'_>) -> Option<(u8, u64)>
-    ensures { result ≡ both (λ nodes timeout. (nodes, timeout)) (option_and_then (number_within 1 9) (text_behind given.now.nodes)) (option_and_then timeout_of (text_behind given.now.timeout)) }
+    ensures { result ≡ text_words.both (λ nodes timeout. (nodes, timeout)) (option_and_then (text_words.number_within 1 9) (command_words_given.text_behind given.now.nodes)) (option_and_then text_words.timeout_of (command_words_given.text_behind given.now.timeout)) }
 {
-    let nodes = number_in(given.nodes, 1, 9)? as u8;
-    Some((nodes, number_in(given.timeout, 1, 1_000_000_000)?))
+    let nodes = number_in(given.nodes, 1, u64::from(MAX_NODES))? as u8;
+    Some((nodes, number_in(given.timeout, 1, MAX_TIMEOUT)?))
 }
 
 fn salvage(alloc: Global, given: &Given<'_>) -> Result<Option<Command>, NoMemory>
-    ensures { IfOk result (λ read. read ≡ salvage_of (given_behind given.now)) }
+    ensures { IfOk result (λ read. read ≡ command_lines.salvage_of (command_words_given.given_behind given.now)) }
 {
     if !takes_only(false, false, true, given) {
         return Ok(None);
@@ -257,7 +258,7 @@ fn salvage(alloc: Global, given: &Given<'_>) -> Result<Option<Command>, NoMemory
 }
 
 fn command_by(alloc: Global, word: &str, given: &Given<'_>) -> Result<Option<Command>, NoMemory>
-    ensures { IfOk result (λ read. read ≡ command_by_of word.now (given_behind given.now)) }
+    ensures { IfOk result (λ read. read ≡ command_lines.command_by word.now (command_words_given.given_behind given.now)) }
 {
     if word == "run" {
         Ok(run(given))
@@ -279,7 +280,7 @@ fn command_by(alloc: Global, word: &str, given: &Given<'_>) -> Result<Option<Com
 }
 
 fn command_found(alloc: Global, matches: &ArgMatches<'_>) -> Result<Option<Command>, NoMemory>
-    ensures { IfOk result (λ read. read ≡ command_in (rows_of (found_of matches.now))) }
+    ensures { IfOk result (λ read. read ≡ command_lines.command_in (rows_of (found_of matches.now))) }
 {
     match value(matches, "command") {
         Some(word) => command_by(alloc, word, &all_given(matches)),
@@ -290,7 +291,7 @@ fn command_found(alloc: Global, matches: &ArgMatches<'_>) -> Result<Option<Comma
 /// The command of these words, which do not hold the program's name. Usage comes exactly where `clap` refuses the words, or no
 /// command has the operand, flags and options that they give.
 pub fn command_of(alloc: Global, words: &[String]) -> Result<Command, WordsRefused>
-    ensures { Answers (command_of_words (map string_bytes words.now)) result }
+    ensures { meaning.Means (command_lines.command_of_words (map string_bytes words.now)) result }
 {
     let matches = parsed(alloc, words)?;
     match command_found(alloc, &matches)? {

@@ -4,10 +4,10 @@ use Rattle.std.specs.List.{AllByRecursion}
 use Rattle.std.proofs.lemmas.List.{map-append}
 use Rattle.std.proofs.lemmas.Bool.{lt-ltb, le-ltb}
 use Rattle.std.proofs.lemmas.List.Sums.{sum_by-cons}
-use Rattle.spec_book.specs.Book.{Book, acted}
-use Rattle.spec_book.specs.History.{History}
-use Rattle.spec_claims.specs.Handed.{replied_after, offered, polled, polled_empty, before}
-use Rattle.law_history.specs.Laws.{QueuesHandInOrder, PollsFindNone}
+use Rattle.spec_book.specs.Book as books
+use Rattle.spec_book.specs.History as histories
+use Rattle.spec_claims.specs.Handed as handed
+use Rattle.law_history.specs.QueuePromise as queue_promise
 use Rattle.law_history.proofs.Effects.{queue_of, Effect, Offers, Takes, FindsNone, Leaves, act_effect}
 
 abbrev Placed : Type 0
@@ -85,12 +85,12 @@ served_more p o t e before after os ts q (FindsNone eo et ee eb ea) w next =
 served_more p o t e before after os ts q (Leaves eo et ee ea) w next =
     rw (eo, et) (next q (waiting_same p q before after w ea))
 
-served : (name : List ℕ) (done : ℕ) (book : Book) (acts : History) (q : Placed) → IsWaiting (done + 1) q (queue_of book name)
-    → IsServed (flat_map (polled name) (replied_after done book acts)) (q ++ flat_map (offered name) (replied_after done book acts))
+served : (name : List ℕ) (done : ℕ) (book : books.Book) (acts : histories.History) (q : Placed) → IsWaiting (done + 1) q (queue_of book name)
+    → IsServed (flat_map (handed.polled name) (handed.replied_after done book acts)) (q ++ flat_map (handed.offered name) (handed.replied_after done book acts))
 served name done book [] q w = tt
 served name done book (a ∷ acts) q w =
     served_more (done + 1) _ _ _ _ _ _ _ q (act_effect name book (done + 1) a.0 a.1) w
-    (λ r x. served name (done + 1) (acted book (done + 1) a.0 a.1).state acts r x)
+    (λ r x. served name (done + 1) (books.acted book (done + 1) a.0 a.1).state acts r x)
 
 get_served : (ts os : Placed) (k p : ℕ) (v : List ℕ) → IsServed ts os → slice_get ts k ≡ Some (p, v) → (q : ℕ) × (slice_get os k ≡ Some (q, v)) × (q < p)
 get_served [] os k p v h e = absurd (cc)
@@ -102,10 +102,10 @@ get_served (t ∷ ts) (o ∷ os) zero p v h e =
     (o.0, ap (λ x. Some (o.0, x)) g, l)
 get_served (t ∷ ts) (o ∷ os) (suc k) p v h e = get_served ts os k p v h.2 e
 
-pub hand_in_order : QueuesHandInOrder
+pub hand_in_order : queue_promise.QueuesHandInOrder
 hand_in_order h name zero p v e = absurd (cc)
 hand_in_order h name (suc k) p v e =
-    get_served (flat_map (polled name) (replied_after 0 [] h)) (flat_map (offered name) (replied_after 0 [] h)) k p v
+    get_served (flat_map (handed.polled name) (handed.replied_after 0 [] h)) (flat_map (handed.offered name) (handed.replied_after 0 [] h)) k p v
     (served name 0 [] h [] (record { same = refl; below = tt })) e
 
 -- what stands at places from p on
@@ -127,31 +127,31 @@ takes_from_more p o t e before after ts (Takes v eo et ee eb) h = rw et (omega a
 takes_from_more p o t e before after ts (FindsNone eo et ee eb ea) h = rw et (from_less p ts h)
 takes_from_more p o t e before after ts (Leaves eo et ee ea) h = rw et (from_less p ts h)
 
-offers_from : (name : List ℕ) (done : ℕ) (book : Book) (acts : History) → AreFrom (done + 1) (flat_map (offered name) (replied_after done book acts))
+offers_from : (name : List ℕ) (done : ℕ) (book : books.Book) (acts : histories.History) → AreFrom (done + 1) (flat_map (handed.offered name) (handed.replied_after done book acts))
 offers_from name done book [] = tt
 offers_from name done book (a ∷ acts) =
-    offers_from_more (done + 1) _ _ _ _ _ _ (act_effect name book (done + 1) a.0 a.1) (offers_from name (done + 1) (acted book (done + 1) a.0 a.1).state acts)
+    offers_from_more (done + 1) _ _ _ _ _ _ (act_effect name book (done + 1) a.0 a.1) (offers_from name (done + 1) (books.acted book (done + 1) a.0 a.1).state acts)
 
-takes_from : (name : List ℕ) (done : ℕ) (book : Book) (acts : History) → AreFrom (done + 1) (flat_map (polled name) (replied_after done book acts))
+takes_from : (name : List ℕ) (done : ℕ) (book : books.Book) (acts : histories.History) → AreFrom (done + 1) (flat_map (handed.polled name) (handed.replied_after done book acts))
 takes_from name done book [] = tt
 takes_from name done book (a ∷ acts) =
-    takes_from_more (done + 1) _ _ _ _ _ _ (act_effect name book (done + 1) a.0 a.1) (takes_from name (done + 1) (acted book (done + 1) a.0 a.1).state acts)
+    takes_from_more (done + 1) _ _ _ _ _ _ (act_effect name book (done + 1) a.0 a.1) (takes_from name (done + 1) (books.acted book (done + 1) a.0 a.1).state acts)
 
 -- how many stand below a place
-before-cons : (p : ℕ) (x : ℕ × List ℕ) (xs : Placed) → before p (x ∷ xs) ≡ cond (nat_lt x.0 p) 1 0 + before p xs
+before-cons : (p : ℕ) (x : ℕ × List ℕ) (xs : Placed) → handed.before p (x ∷ xs) ≡ cond (nat_lt x.0 p) 1 0 + handed.before p xs
 before-cons p x xs = sum_by-cons (λ y. cond (nat_lt y.0 p) 1 0) x xs
 
-before_one : (p : ℕ) (x : ℕ × List ℕ) (xs : Placed) → x.0 < p → before p (x ∷ xs) ≡ 1 + before p xs
-before_one p x xs l = before-cons p x xs ∙ ap (λ b. cond b 1 0 + before p xs) (lt-ltb x.0 p l)
+before_one : (p : ℕ) (x : ℕ × List ℕ) (xs : Placed) → x.0 < p → handed.before p (x ∷ xs) ≡ 1 + handed.before p xs
+before_one p x xs l = before-cons p x xs ∙ ap (λ b. cond b 1 0 + handed.before p xs) (lt-ltb x.0 p l)
 
-before_none : (p : ℕ) (xs : Placed) → AreFrom p xs → before p xs ≡ 0
+before_none : (p : ℕ) (xs : Placed) → AreFrom p xs → handed.before p xs ≡ 0
 before_none p [] h = refl
 before_none p (x ∷ xs) h =
-    before-cons p x xs ∙ ap (λ b. cond b 1 0 + before p xs) (le-ltb x.0 p h.0) ∙ (let k : before p xs ≡ 0 = before_none p xs h.1 in omega arith)
+    before-cons p x xs ∙ ap (λ b. cond b 1 0 + handed.before p xs) (le-ltb x.0 p h.0) ∙ (let k : handed.before p xs ≡ 0 = before_none p xs h.1 in omega arith)
 
 -- as many were taken as offered, at a place from p on
 abbrev IsEven : ℕ → Placed → Placed → ℕ → Type 0
-IsEven p ts os q = (p ≤ q) × (before q ts ≡ before q os)
+IsEven p ts os q = (p ≤ q) × (handed.before q ts ≡ handed.before q os)
 
 even_more : (p : ℕ) (o t : Placed) (e : List ℕ) (before after : List (List ℕ)) (os ts q : Placed) (es : List ℕ) → Effect p o t e before after
     → IsWaiting p q before → AreFrom (p + 1) os → AreFrom (p + 1) ts
@@ -160,7 +160,7 @@ even_more : (p : ℕ) (o t : Placed) (e : List ℕ) (before after : List (List �
 even_more p o t e b after os ts q es (Offers v eo et ee ea) w fo ft next =
     rw (eo, et, ee)
     (all_since (IsEven (p + 1) ts ((q ++ (p, v) ∷ []) ++ os)) (IsEven p ts (q ++ ((p, v) ∷ os)))
-    (λ x h. (omega arith, h.1 ∙ ap (before x) (append_assoc q ((p, v) ∷ []) os))) es
+    (λ x h. (omega arith, h.1 ∙ ap (handed.before x) (append_assoc q ((p, v) ∷ []) os))) es
     (next (q ++ (p, v) ∷ []) (waiting_more p q b after v w ea)))
 even_more p o t e b after os ts q es (Takes v eo et ee eb) w fo ft next =
     let f : IsFirst p v q after = waiting_first p q b after v w eb in
@@ -174,7 +174,7 @@ even_more p o t e b after os ts q es (FindsNone eo et ee eb ea) w fo ft next =
     rw (eo, et, ee) (
       (
         omega arith,
-        before_none p ts (from_less p ts ft) ∙ sym (before_none p os (from_less p os fo)) ∙ ap (λ r. before p (r ++ os)) (sym (waiting_none p q b w eb)),
+        before_none p ts (from_less p ts ft) ∙ sym (before_none p os (from_less p os fo)) ∙ ap (λ r. handed.before p (r ++ os)) (sym (waiting_none p q b w eb)),
       ),
       all_since (IsEven (p + 1) ts (q ++ os)) (IsEven p ts (q ++ os)) (λ x h. (omega arith, h.1)) es (next q (waiting_same p q b after w (ea ∙ sym eb))),
     )
@@ -182,24 +182,24 @@ even_more p o t e b after os ts q es (Leaves eo et ee ea) w fo ft next =
     rw (eo, et, ee)
     (all_since (IsEven (p + 1) ts (q ++ os)) (IsEven p ts (q ++ os)) (λ x h. (omega arith, h.1)) es (next q (waiting_same p q b after w ea)))
 
-even : (name : List ℕ) (done : ℕ) (book : Book) (acts : History) (q : Placed) → IsWaiting (done + 1) q (queue_of book name)
-    → AllByRecursion (IsEven (done + 1) (flat_map (polled name) (replied_after done book acts)) (q ++ flat_map (offered name) (replied_after done book acts)))
-    (flat_map (polled_empty name) (replied_after done book acts))
+even : (name : List ℕ) (done : ℕ) (book : books.Book) (acts : histories.History) (q : Placed) → IsWaiting (done + 1) q (queue_of book name)
+    → AllByRecursion (IsEven (done + 1) (flat_map (handed.polled name) (handed.replied_after done book acts)) (q ++ flat_map (handed.offered name) (handed.replied_after done book acts)))
+    (flat_map (handed.polled_empty name) (handed.replied_after done book acts))
 even name done book [] q w = tt
 even name done book (a ∷ acts) q w =
     even_more (done + 1) _ _ _ _ _ _ _ q _ (act_effect name book (done + 1) a.0 a.1) w
-    (offers_from name (done + 1) (acted book (done + 1) a.0 a.1).state acts)
-    (takes_from name (done + 1) (acted book (done + 1) a.0 a.1).state acts)
-    (λ r x. even name (done + 1) (acted book (done + 1) a.0 a.1).state acts r x)
+    (offers_from name (done + 1) (books.acted book (done + 1) a.0 a.1).state acts)
+    (takes_from name (done + 1) (books.acted book (done + 1) a.0 a.1).state acts)
+    (λ r x. even name (done + 1) (books.acted book (done + 1) a.0 a.1).state acts r x)
 
 get_all : {X : Type 0} (P : X → Type 0) (xs : List X) (k : ℕ) (x : X) → AllByRecursion P xs → slice_get xs k ≡ Some x → P x
 get_all P [] k x h e = absurd (cc)
 get_all P (y ∷ xs) zero x h e = let f : y ≡ x = cc in subst P f h.0
 get_all P (y ∷ xs) (suc k) x h e = get_all P xs k x h.1 e
 
-pub find_none : PollsFindNone
+pub find_none : queue_promise.PollsFindNone
 find_none h name zero p e = absurd (cc)
 find_none h name (suc k) p e =
-    (get_all (IsEven 1 (flat_map (polled name) (replied_after 0 [] h)) (flat_map (offered name) (replied_after 0 [] h)))
-    (flat_map (polled_empty name) (replied_after 0 [] h)) k p
+    (get_all (IsEven 1 (flat_map (handed.polled name) (handed.replied_after 0 [] h)) (flat_map (handed.offered name) (handed.replied_after 0 [] h)))
+    (flat_map (handed.polled_empty name) (handed.replied_after 0 [] h)) k p
     (even name 0 [] h [] (record { same = refl; below = tt })) e).1

@@ -2,10 +2,10 @@
 use Rattle.std.proofs.Common.{◌≡◌, ℕ, Bool, true, false, ◌||◌, nat_eq, nat_lt, cond, List, [], ◌∷◌, ◌++◌, map, refl, ap, ◌∙◌, arith}
 use Rattle.std.proofs.lemmas.Bool.Decides.{nat_tests}
 use Rattle.json.specs.Print.{quoted, escape, escape_byte, escape_letter}
-use Rattle.spec_report.specs.Items.{item_line, waiting_line}
-use Rattle.spec_report.specs.Report.{act_lines}
-use Rattle.law_report.specs.Forms.{Each}
-use Rattle.law_report.specs.Laws.{strings_of, marked, EscapesQuotesAlone}
+use Rattle.spec_report.specs.Items as items
+use Rattle.spec_report.specs.Report as reports
+use Rattle.std.specs.List.{AllByRecursion}
+use Rattle.law_report.specs.ReportsDiffer as reports_differ
 use Rattle.law_report.proofs.Words.{above, and_first, and_second}
 use Rattle.law_report.proofs.Report.{items_are_lines, acts_are_lines, waiting_are_lines, end_word-line}
 
@@ -35,24 +35,24 @@ by_front : (q : Bool) (b : ℕ) (bs : List ℕ) → cond q (92 ∷ b ∷ []) (b 
 by_front true b bs = refl
 by_front false b bs = refl
 
-pub escape-marked : (bs : List ℕ) → above 31 bs ≡ true → escape bs ≡ marked bs
+pub escape-marked : (bs : List ℕ) → above 31 bs ≡ true → escape bs ≡ reports_differ.escaped bs
 escape-marked [] h = refl
 escape-marked (b ∷ bs) h =
     (λ i. byte_escape b (and_first (nat_lt 31 b) _ h) i ++ escape-marked bs (and_second (nat_lt 31 b) _ h) i)
-    ∙ by_front (nat_eq b 34 || nat_eq b 92) b (marked bs)
+    ∙ by_front (nat_eq b 34 || nat_eq b 92) b (reports_differ.escaped bs)
 
-each-append : {T : Type 0} (P : T → Type 0) (xs ys : List T) → Each P xs → Each P ys → Each P (xs ++ ys)
+each-append : {T : Type 0} (P : T → Type 0) (xs ys : List T) → AllByRecursion P xs → AllByRecursion P ys → AllByRecursion P (xs ++ ys)
 each-append P [] ys h k = k
 each-append P (x ∷ xs) ys h k = (h.0, each-append P xs ys h.1 k)
 
-each-weaker : {T : Type 0} (P Q : T → Type 0) → ((x : T) → P x → Q x) → (xs : List T) → Each P xs → Each Q xs
+each-weaker : {T : Type 0} (P Q : T → Type 0) → ((x : T) → P x → Q x) → (xs : List T) → AllByRecursion P xs → AllByRecursion Q xs
 each-weaker P Q f [] h = tt
 each-weaker P Q f (x ∷ xs) h = (f x h.0, each-weaker P Q f xs h.1)
 
-pub json_escapes_quotes_alone : EscapesQuotesAlone
+pub json_escapes_quotes_alone : reports_differ.EscapesQuotesAlone
 json_escapes_quotes_alone report h =
-    let lines = each-append (λ l. above 31 l ≡ true) (act_lines 1 report.history) (map item_line report.items ++ map waiting_line report.waiting)
+    let lines = each-append (λ l. above 31 l ≡ true) (reports.act_lines 1 report.history) (map items.item_line report.items ++ map items.waiting_line report.waiting)
     (acts_are_lines 1 report.history h.history)
-    (each-append (λ l. above 31 l ≡ true) (map item_line report.items) (map waiting_line report.waiting) (items_are_lines report.items h.items) (waiting_are_lines report.waiting)) in
-    each-weaker (λ l. above 31 l ≡ true) (λ l. quoted l ≡ 34 ∷ (marked l ++ (34 ∷ []))) (λ l e. ap (λ t. 34 ∷ (t ++ (34 ∷ []))) (escape-marked l e)) (strings_of report)
+    (each-append (λ l. above 31 l ≡ true) (map items.item_line report.items) (map items.waiting_line report.waiting) (items_are_lines report.items h.items) (waiting_are_lines report.waiting)) in
+    each-weaker (λ l. above 31 l ≡ true) (λ l. quoted l ≡ 34 ∷ (reports_differ.escaped l ++ (34 ∷ []))) (λ l e. ap (λ t. 34 ∷ (t ++ (34 ∷ []))) (escape-marked l e)) (reports_differ.report_strings report)
     ((end_word-line report.end).bytes, lines)

@@ -1,13 +1,13 @@
 -- An item is read back from the words of its line.
 use Rattle.std.proofs.Common.{◌≡◌, ℕ, cond, List, [], ◌∷◌, drop, length, codes, refl}
 use Rattle.std.specs.Fmt.{decimal}
-use Rattle.ax_types.specs.Ends.{end_text as link_end_text}
+use Rattle.ax_types.specs.Ends as ends
 use Rattle.ax_types.specs.declared.items.Item.{Item}
 use Rattle.ax_types.specs.declared.items.Item.TheVariants as item
-use Rattle.spec_report.specs.Calls.{level_text}
-use Rattle.spec_report.specs.Replies.{how_text}
-use Rattle.spec_report.specs.Items.{watch_text, payload_kind_text, arrival_text, reach_text, item_line}
-use Rattle.law_report.specs.Forms.{IsItem}
+use Rattle.spec_report.specs.CallLines as call_lines
+use Rattle.spec_report.specs.Replies as replies
+use Rattle.spec_report.specs.Items as items
+use Rattle.law_report.specs.ReportValues as report_values
 use Rattle.law_report.proofs.Words.{IsLine, word, join, at, is_word}
 use Rattle.law_report.proofs.Numbers.{number_back, number-back, number_line}
 use Rattle.law_report.proofs.Replies.{reply_words, reply_back, reply-line, reply-back, event_words, event_back, event-line, event-alone, events_words, events_back, events-line, events-back, events-length, how_back, how-line, how-back}
@@ -16,21 +16,21 @@ use Rattle.law_report.proofs.Parts.{level_back, level-line, level-back, watch_ba
 abbrev pub item_words : Item → List (List ℕ)
 item_words (item.Leader node term) = codes "leader" ∷ decimal node ∷ decimal term ∷ []
 item_words (item.Commit place) = codes "commit" ∷ decimal place ∷ []
-item_words (item.Reach node term arrival session number) = codes "reach" ∷ decimal node ∷ arrival_text term arrival ∷ decimal session ∷ decimal number ∷ []
+item_words (item.Reach node term arrival session number) = codes "reach" ∷ decimal node ∷ items.arrival_text term arrival ∷ decimal session ∷ decimal number ∷ []
 item_words (item.Halted node) = codes "halted" ∷ decimal node ∷ []
 item_words (item.Opened session client) = codes "opened" ∷ decimal session ∷ decimal client ∷ []
 item_words (item.Called session number call) = codes "called" ∷ decimal session ∷ decimal number ∷ call_words call
 item_words (item.Event session place prev events) = codes "event" ∷ decimal session ∷ decimal place ∷ decimal prev ∷ decimal (length events) ∷ events_words events
-item_words (item.Watched client kind session place event) = codes "watch" ∷ decimal client ∷ watch_text kind ∷ decimal session ∷ decimal place ∷ event_words event
+item_words (item.Watched client kind session place event) = codes "watch" ∷ decimal client ∷ items.watch_text kind ∷ decimal session ∷ decimal place ∷ event_words event
 item_words (item.Reply session number place reply) = codes "reply" ∷ decimal session ∷ decimal number ∷ decimal place ∷ reply_words reply
-item_words (item.Read session number level place reach reply) = codes "read" ∷ decimal session ∷ decimal number ∷ level_text level ∷ decimal place ∷ reach_text reach ∷ reply_words reply
-item_words (item.Ended session place how) = codes "ended" ∷ decimal session ∷ decimal place ∷ how_text how ∷ []
+item_words (item.Read session number level place reach reply) = codes "read" ∷ decimal session ∷ decimal number ∷ call_lines.level_text level ∷ decimal place ∷ items.reach_text reach ∷ reply_words reply
+item_words (item.Ended session place how) = codes "ended" ∷ decimal session ∷ decimal place ∷ replies.how_text how ∷ []
 item_words (item.Doubt session number) = codes "doubt" ∷ decimal session ∷ decimal number ∷ []
 item_words (item.Lost session number) = codes "lost" ∷ decimal session ∷ decimal number ∷ []
 item_words (item.Unsent session number) = codes "unsent" ∷ decimal session ∷ decimal number ∷ []
 item_words (item.Unanswered session number) = codes "unanswered" ∷ decimal session ∷ decimal number ∷ []
 item_words (item.Listed count) = codes "listed" ∷ decimal count ∷ []
-item_words (item.Pending number from to kind) = codes "pending" ∷ decimal number ∷ link_end_text from ∷ link_end_text to ∷ payload_kind_text kind ∷ []
+item_words (item.Pending number from to kind) = codes "pending" ∷ decimal number ∷ ends.link_end_text from ∷ ends.link_end_text to ∷ items.payload_kind_text kind ∷ []
 item_words (item.Skip reason) = codes "skip" ∷ skip_words reason
 
 abbrev pub item_back : List (List ℕ) → Item
@@ -54,7 +54,7 @@ item_back ws =
     cond (is_word (at 0 ws) (codes "pending")) (item.Pending (number_back (at 1 ws)) (link_end_back (at 2 ws)) (link_end_back (at 3 ws)) (payload_kind_back (at 4 ws))) (
     (item.Skip (skip_back (drop 1 ws))))))))))))))))))))
 
-pub item-line : (o : Item) → IsItem o → IsLine (item_line o) (item_words o)
+pub item-line : (o : Item) → report_values.FitsItem o → IsLine (items.item_line o) (item_words o)
 item-line (item.Leader node term) h = join (word (codes "leader") refl) (join (number_line node) (number_line term))
 item-line (item.Commit place) h = join (word (codes "commit") refl) (number_line place)
 item-line (item.Reach node term arrival session number) h = join (join (word (codes "reach") refl) (join (number_line node) (arrival-line term arrival))) (join (number_line session) (number_line number))
@@ -74,7 +74,7 @@ item-line (item.Listed count) h = join (word (codes "listed") refl) (number_line
 item-line (item.Pending number from to kind) h = join (join (word (codes "pending") refl) (join (number_line number) (link_end-line from))) (join (link_end-line to) (payload_kind-line kind))
 item-line (item.Skip reason) h = join (word (codes "skip") refl) (skip-line reason h)
 
-pub item-back : (o : Item) → IsItem o → item_back (item_words o) ≡ o
+pub item-back : (o : Item) → report_values.FitsItem o → item_back (item_words o) ≡ o
 item-back (item.Leader node term) h = λ i. item.Leader (number-back node h.0 i) (number-back term h.1 i)
 item-back (item.Commit place) h = λ i. item.Commit (number-back place h i)
 item-back (item.Reach node term arrival session number) h = λ i. item.Reach (number-back node h.0 i) (term-back term arrival h.1 i) (arrival-back term arrival h.2 i) (number-back session h.3 i) (number-back number h.4 i)

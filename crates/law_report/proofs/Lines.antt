@@ -1,7 +1,7 @@
 -- A text of lines is split into them, and a value is read back from its line.
 use Rattle.std.proofs.Common.{◌≡◌, ℕ, Bool, true, false, slice_index_or, List, [], ◌∷◌, ◌++◌, map, drop, refl, sym, ap, ◌∙◌, append_assoc}
-use Rattle.spec_report.specs.Items.{lines_text}
-use Rattle.law_report.specs.Forms.{Each}
+use Rattle.spec_report.specs.Items as items
+use Rattle.std.specs.List.{AllByRecursion}
 use Rattle.law_report.proofs.Words.{pieces, pieces-join, pieces-lacks, above, above-lacks, IsLine}
 
 -- values with one line are one value, where each is read back from the words of its line
@@ -10,14 +10,14 @@ one_value back x y h k b c e = sym b ∙ (ap back (sym h.words ∙ (ap (pieces 3
 
 -- each line has no newline
 abbrev pub AreLines : List (List ℕ) → Type 0
-AreLines ls = Each (λ l. above 31 l ≡ true) ls
+AreLines ls = AllByRecursion (λ l. above 31 l ≡ true) ls
 
 -- lines are the pieces of their text
-pub pieces-lines : (ls : List (List ℕ)) (rest : List ℕ) → AreLines ls → pieces 10 (lines_text ls ++ rest) ≡ ls ++ pieces 10 rest
+pub pieces-lines : (ls : List (List ℕ)) (rest : List ℕ) → AreLines ls → pieces 10 (items.lines_text ls ++ rest) ≡ ls ++ pieces 10 rest
 pieces-lines [] rest h = refl
 pieces-lines (l ∷ ls) rest h =
-    ap (pieces 10) (append_assoc l (10 ∷ lines_text ls) rest)
-    ∙ (pieces-join 10 l (lines_text ls ++ rest)
+    ap (pieces 10) (append_assoc l (10 ∷ items.lines_text ls) rest)
+    ∙ (pieces-join 10 l (items.lines_text ls ++ rest)
     ∙ (λ i. pieces-lacks 10 l (above-lacks 31 10 refl l h.0) i ++ pieces-lines ls rest h.1 i))
 
 -- a list of lists, and what stands in front and behind
@@ -29,7 +29,7 @@ same_rest x y xs ys e = ap (λ zs. drop 1 zs) e
 
 -- equal lines of lists of values are of equal values
 pub one_list : {T : Type 0} (P : T → Type 0) (line : T → List ℕ) → ((x y : T) → P x → P y → line x ≡ line y → x ≡ y)
-    → (xs ys : List T) → Each P xs → Each P ys → map line xs ≡ map line ys → xs ≡ ys
+    → (xs ys : List T) → AllByRecursion P xs → AllByRecursion P ys → map line xs ≡ map line ys → xs ≡ ys
 one_list P line same [] [] h k e = refl
 one_list P line same [] (y ∷ ys) h k e = cc
 one_list P line same (x ∷ xs) [] h k e = cc
@@ -39,7 +39,7 @@ one_list P line same (x ∷ xs) (y ∷ ys) h k e =
 
 -- a test fails at each line
 abbrev pub NoneIs : (List ℕ → Bool) → List (List ℕ) → Type 0
-NoneIs p ls = Each (λ l. p l ≡ false) ls
+NoneIs p ls = AllByRecursion (λ l. p l ≡ false) ls
 
 -- a test holds at the first line
 abbrev pub opens : (List ℕ → Bool) → List (List ℕ) → Bool

@@ -5,16 +5,19 @@ use Rattle.std.proofs.lemmas.Fmt.{decimal_is_IsNumeral}
 use Rattle.std.specs.Fmt.{digits, digits_onto, digit_glyph, decimal, signed_decimal}
 use Rattle.std.specs.Str.Parse.{digits_value}
 use Rattle.std.specs.List.{list_all}
-use Rattle.ax_types.specs.Forms.{is_name_byte, is_text_byte}
-use Rattle.law_report.specs.Forms.{IsNumber, IsInteger, IsName, IsText}
+use Rattle.ax_types.specs.Letters as letters
+use Rattle.spec_wire.specs.Ranges as ranges
 use Rattle.law_report.proofs.Words.{above, lacks, above-lacks, all-weaker, both, and_second, IsLine, word}
 
 -- the number of digits
 abbrev pub number_back : List ℕ → ℕ
 number_back ds = digits_value 10 ds
 
-pub number-back : (n : ℕ) → IsNumber n → number_back (decimal n) ≡ n
+pub number-back : (n : ℕ) → ranges.IsNumber n → number_back (decimal n) ≡ n
 number-back n h = (decimal_is_IsNumeral n h).1
+
+pub life_is_number : (n : ℕ) → ranges.IsLife n → ranges.IsNumber n
+life_is_number n h = omega (arith, h.1)
 
 glyph_is_above : (d : ℕ) (b : Bool) → nat_lt 46 (cond b (48 + d) (87 + d)) ≡ true
 glyph_is_above d true = grind (arith, nat_tests)
@@ -45,7 +48,7 @@ signed_decimal-above (negsuc n) =
 abbrev pub integer_back : List ℕ → ℤ
 integer_back bs = cond (lacks 45 bs) (pos (number_back bs)) (negsuc (number_back (drop 1 bs) - 1))
 
-pub integer-back : (z : ℤ) → IsInteger z → integer_back (signed_decimal z) ≡ z
+pub integer-back : (z : ℤ) → ranges.IsSigned z → integer_back (signed_decimal z) ≡ z
 integer-back (pos n) h =
     rw (above-lacks 46 45 refl (decimal n) (decimal-above n)) (ap (λ m. pos m) (number-back n (omega (arith, h))))
 integer-back (negsuc n) h =
@@ -59,17 +62,17 @@ number_line n = word (decimal n) (all-weaker (nat_lt 46) (nat_lt 32) (λ x e. gr
 pub integer_line : (z : ℤ) → IsLine (signed_decimal z) (signed_decimal z ∷ [])
 integer_line z = word (signed_decimal z) (signed_decimal-above z)
 
-name_byte_is_above : (b : ℕ) → is_name_byte b ≡ true → nat_lt 32 b ≡ true
+name_byte_is_above : (b : ℕ) → letters.is_name_byte b ≡ true → nat_lt 32 b ≡ true
 name_byte_is_above b h = grind (arith, nat_tests)
 
-text_byte_is_above : (b : ℕ) → is_text_byte b ≡ true → nat_lt 32 b ≡ true
+text_byte_is_above : (b : ℕ) → letters.is_text_byte b ≡ true → nat_lt 32 b ≡ true
 text_byte_is_above b h = grind (arith, nat_tests)
 
-pub name_line : (bs : List ℕ) → IsName bs → IsLine bs (bs ∷ [])
-name_line bs h = word bs (all-weaker is_name_byte (nat_lt 32) name_byte_is_above bs (and_second _ (list_all is_name_byte bs) h))
+pub name_line : (bs : List ℕ) → ranges.IsName bs → IsLine bs (bs ∷ [])
+name_line bs h = word bs (all-weaker letters.is_name_byte (nat_lt 32) name_byte_is_above bs (and_second _ (list_all letters.is_name_byte bs) h))
 
-pub text_line : (bs : List ℕ) → IsText bs → IsLine bs (bs ∷ [])
-text_line bs h = word bs (all-weaker is_text_byte (nat_lt 32) text_byte_is_above bs (and_second _ (list_all is_text_byte bs) h))
+pub text_line : (bs : List ℕ) → ranges.IsText bs → IsLine bs (bs ∷ [])
+text_line bs h = word bs (all-weaker letters.is_text_byte (nat_lt 32) text_byte_is_above bs (and_second _ (list_all letters.is_text_byte bs) h))
 
 -- ---- the first byte of a number
 

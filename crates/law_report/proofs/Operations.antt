@@ -21,10 +21,10 @@ use Rattle.ax_types.specs.declared.ops.TopicOp.{TopicOp}
 use Rattle.ax_types.specs.declared.ops.TopicOp.TheVariants as topic_op
 use Rattle.ax_types.specs.declared.ops.Op.{Op}
 use Rattle.ax_types.specs.declared.ops.Op.TheVariants as op
-use Rattle.spec_report.specs.Calls.{map_op_text, value_op_text, long_op_text, lock_op_text, group_op_text, set_op_text, queue_op_text, multimap_op_text, topic_op_text, op_text}
-use Rattle.law_report.specs.Forms.{IsName, IsMapOp, IsValueOp, IsLongOp, IsSetOp, IsQueueOp, IsMultimapOp, IsTopicOp, IsOp}
+use Rattle.spec_report.specs.CallLines as call_lines
+use Rattle.spec_wire.specs.Ranges as ranges
 use Rattle.law_report.proofs.Words.{IsLine, word, join, at, is_word}
-use Rattle.law_report.proofs.Numbers.{number_back, number-back, integer_back, integer-back, number_line, integer_line, name_line, text_line}
+use Rattle.law_report.proofs.Numbers.{number_back, number-back, integer_back, integer-back, number_line, integer_line, name_line, text_line, life_is_number}
 
 abbrev pub map_op_words : MapOp → List (List ℕ)
 map_op_words (map_op.Put key text) = codes "put" ∷ key ∷ text ∷ []
@@ -45,7 +45,7 @@ map_op_back ws =
     cond (is_word (at 0 ws) (codes "listen")) map_op.Listen (
     (map_op.PutFor (at 1 ws) (at 2 ws) (number_back (at 3 ws)))))))))
 
-pub map_op-line : (o : MapOp) → IsMapOp o → IsLine (map_op_text o) (map_op_words o)
+pub map_op-line : (o : MapOp) → ranges.FitsMapOp o → IsLine (call_lines.map_op_text o) (map_op_words o)
 map_op-line (map_op.Put key text) h = join (word (codes "put") refl) (join (name_line key h.0) (text_line text h.1))
 map_op-line (map_op.PutIfAbsent key text) h = join (word (codes "put_if_absent") refl) (join (name_line key h.0) (text_line text h.1))
 map_op-line (map_op.Replace key text) h = join (word (codes "replace") refl) (join (name_line key h.0) (text_line text h.1))
@@ -54,14 +54,14 @@ map_op-line map_op.Clear h = word (codes "clear") refl
 map_op-line map_op.Listen h = word (codes "listen") refl
 map_op-line (map_op.PutFor key text life) h = join (word (codes "put_for") refl) (join (name_line key h.0) (join (text_line text h.1) (number_line life)))
 
-pub map_op-back : (o : MapOp) → IsMapOp o → map_op_back (map_op_words o) ≡ o
+pub map_op-back : (o : MapOp) → ranges.FitsMapOp o → map_op_back (map_op_words o) ≡ o
 map_op-back (map_op.Put key text) h = refl
 map_op-back (map_op.PutIfAbsent key text) h = refl
 map_op-back (map_op.Replace key text) h = refl
 map_op-back (map_op.Remove key) h = refl
 map_op-back map_op.Clear h = refl
 map_op-back map_op.Listen h = refl
-map_op-back (map_op.PutFor key text life) h = λ i. map_op.PutFor key text (number-back life h.2 i)
+map_op-back (map_op.PutFor key text life) h = λ i. map_op.PutFor key text (number-back life (life_is_number life h.2) i)
 
 abbrev pub value_op_words : ValueOp → List (List ℕ)
 value_op_words (value_op.Set text) = codes "set" ∷ text ∷ []
@@ -76,13 +76,13 @@ value_op_back ws =
     cond (is_word (at 0 ws) (codes "clear")) value_op.Clear (
     value_op.Listen)))
 
-pub value_op-line : (o : ValueOp) → IsValueOp o → IsLine (value_op_text o) (value_op_words o)
+pub value_op-line : (o : ValueOp) → ranges.FitsValueOp o → IsLine (call_lines.value_op_text o) (value_op_words o)
 value_op-line (value_op.Set text) h = join (word (codes "set") refl) (text_line text h)
 value_op-line (value_op.Cas expected text) h = join (word (codes "cas") refl) (join (text_line expected h.0) (text_line text h.1))
 value_op-line value_op.Clear h = word (codes "clear") refl
 value_op-line value_op.Listen h = word (codes "listen") refl
 
-pub value_op-back : (o : ValueOp) → IsValueOp o → value_op_back (value_op_words o) ≡ o
+pub value_op-back : (o : ValueOp) → ranges.FitsValueOp o → value_op_back (value_op_words o) ≡ o
 value_op-back (value_op.Set text) h = refl
 value_op-back (value_op.Cas expected text) h = refl
 value_op-back value_op.Clear h = refl
@@ -101,13 +101,13 @@ long_op_back ws =
     cond (is_word (at 0 ws) (codes "set")) (long_op.Set (integer_back (at 1 ws))) (
     (long_op.Cas (integer_back (at 1 ws)) (integer_back (at 2 ws))))))
 
-pub long_op-line : (o : LongOp) → IsLongOp o → IsLine (long_op_text o) (long_op_words o)
+pub long_op-line : (o : LongOp) → ranges.FitsLongOp o → IsLine (call_lines.long_op_text o) (long_op_words o)
 long_op-line (long_op.Add delta) h = join (word (codes "add") refl) (integer_line delta)
 long_op-line (long_op.GetAndAdd delta) h = join (word (codes "get_and_add") refl) (integer_line delta)
 long_op-line (long_op.Set number) h = join (word (codes "set") refl) (integer_line number)
 long_op-line (long_op.Cas expected number) h = join (word (codes "cas") refl) (join (integer_line expected) (integer_line number))
 
-pub long_op-back : (o : LongOp) → IsLongOp o → long_op_back (long_op_words o) ≡ o
+pub long_op-back : (o : LongOp) → ranges.FitsLongOp o → long_op_back (long_op_words o) ≡ o
 long_op-back (long_op.Add delta) h = λ i. long_op.Add (integer-back delta h i)
 long_op-back (long_op.GetAndAdd delta) h = λ i. long_op.GetAndAdd (integer-back delta h i)
 long_op-back (long_op.Set number) h = λ i. long_op.Set (integer-back number h i)
@@ -126,7 +126,7 @@ lock_op_back ws =
     cond (is_word (at 0 ws) (codes "unlock")) lock_op.Unlock (
     lock_op.Cancel)))
 
-pub lock_op-line : (o : LockOp) → IsLine (lock_op_text o) (lock_op_words o)
+pub lock_op-line : (o : LockOp) → IsLine (call_lines.lock_op_text o) (lock_op_words o)
 lock_op-line lock_op.Lock = word (codes "lock") refl
 lock_op-line lock_op.TryLock = word (codes "try_lock") refl
 lock_op-line lock_op.Unlock = word (codes "unlock") refl
@@ -149,7 +149,7 @@ group_op_back ws =
     cond (is_word (at 0 ws) (codes "leave")) group_op.Leave (
     group_op.Listen))
 
-pub group_op-line : (o : GroupOp) → IsLine (group_op_text o) (group_op_words o)
+pub group_op-line : (o : GroupOp) → IsLine (call_lines.group_op_text o) (group_op_words o)
 group_op-line group_op.Join = word (codes "join") refl
 group_op-line group_op.Leave = word (codes "leave") refl
 group_op-line group_op.Listen = word (codes "listen") refl
@@ -170,12 +170,12 @@ set_op_back ws =
     cond (is_word (at 0 ws) (codes "remove")) (set_op.Remove (at 1 ws)) (
     set_op.Clear))
 
-pub set_op-line : (o : SetOp) → IsSetOp o → IsLine (set_op_text o) (set_op_words o)
+pub set_op-line : (o : SetOp) → ranges.FitsSetOp o → IsLine (call_lines.set_op_text o) (set_op_words o)
 set_op-line (set_op.Add text) h = join (word (codes "add") refl) (text_line text h)
 set_op-line (set_op.Remove text) h = join (word (codes "remove") refl) (text_line text h)
 set_op-line set_op.Clear h = word (codes "clear") refl
 
-pub set_op-back : (o : SetOp) → IsSetOp o → set_op_back (set_op_words o) ≡ o
+pub set_op-back : (o : SetOp) → ranges.FitsSetOp o → set_op_back (set_op_words o) ≡ o
 set_op-back (set_op.Add text) h = refl
 set_op-back (set_op.Remove text) h = refl
 set_op-back set_op.Clear h = refl
@@ -189,11 +189,11 @@ queue_op_back ws =
     cond (is_word (at 0 ws) (codes "offer")) (queue_op.Offer (at 1 ws)) (
     queue_op.Poll)
 
-pub queue_op-line : (o : QueueOp) → IsQueueOp o → IsLine (queue_op_text o) (queue_op_words o)
+pub queue_op-line : (o : QueueOp) → ranges.FitsQueueOp o → IsLine (call_lines.queue_op_text o) (queue_op_words o)
 queue_op-line (queue_op.Offer text) h = join (word (codes "offer") refl) (text_line text h)
 queue_op-line queue_op.Poll h = word (codes "poll") refl
 
-pub queue_op-back : (o : QueueOp) → IsQueueOp o → queue_op_back (queue_op_words o) ≡ o
+pub queue_op-back : (o : QueueOp) → ranges.FitsQueueOp o → queue_op_back (queue_op_words o) ≡ o
 queue_op-back (queue_op.Offer text) h = refl
 queue_op-back queue_op.Poll h = refl
 
@@ -208,12 +208,12 @@ multimap_op_back ws =
     cond (is_word (at 0 ws) (codes "remove")) (multimap_op.Remove (at 1 ws) (at 2 ws)) (
     (multimap_op.RemoveAll (at 1 ws))))
 
-pub multimap_op-line : (o : MultimapOp) → IsMultimapOp o → IsLine (multimap_op_text o) (multimap_op_words o)
+pub multimap_op-line : (o : MultimapOp) → ranges.FitsMultimapOp o → IsLine (call_lines.multimap_op_text o) (multimap_op_words o)
 multimap_op-line (multimap_op.Put key text) h = join (word (codes "put") refl) (join (name_line key h.0) (text_line text h.1))
 multimap_op-line (multimap_op.Remove key text) h = join (word (codes "remove") refl) (join (name_line key h.0) (text_line text h.1))
 multimap_op-line (multimap_op.RemoveAll key) h = join (word (codes "remove_all") refl) (name_line key h)
 
-pub multimap_op-back : (o : MultimapOp) → IsMultimapOp o → multimap_op_back (multimap_op_words o) ≡ o
+pub multimap_op-back : (o : MultimapOp) → ranges.FitsMultimapOp o → multimap_op_back (multimap_op_words o) ≡ o
 multimap_op-back (multimap_op.Put key text) h = refl
 multimap_op-back (multimap_op.Remove key text) h = refl
 multimap_op-back (multimap_op.RemoveAll key) h = refl
@@ -229,12 +229,12 @@ topic_op_back ws =
     cond (is_word (at 0 ws) (codes "unsubscribe")) topic_op.Unsubscribe (
     (topic_op.Publish (at 1 ws))))
 
-pub topic_op-line : (o : TopicOp) → IsTopicOp o → IsLine (topic_op_text o) (topic_op_words o)
+pub topic_op-line : (o : TopicOp) → ranges.FitsTopicOp o → IsLine (call_lines.topic_op_text o) (topic_op_words o)
 topic_op-line topic_op.Subscribe h = word (codes "subscribe") refl
 topic_op-line topic_op.Unsubscribe h = word (codes "unsubscribe") refl
 topic_op-line (topic_op.Publish text) h = join (word (codes "publish") refl) (text_line text h)
 
-pub topic_op-back : (o : TopicOp) → IsTopicOp o → topic_op_back (topic_op_words o) ≡ o
+pub topic_op-back : (o : TopicOp) → ranges.FitsTopicOp o → topic_op_back (topic_op_words o) ≡ o
 topic_op-back topic_op.Subscribe h = refl
 topic_op-back topic_op.Unsubscribe h = refl
 topic_op-back (topic_op.Publish text) h = refl
@@ -262,7 +262,7 @@ op_back ws =
     cond (is_word (at 0 ws) (codes "multimap")) (op.Multimap (multimap_op_back (drop 2 ws))) (
     (op.Topic (topic_op_back (drop 2 ws)))))))))))
 
-pub op-line : (bs : List ℕ) (o : Op) → IsName bs → IsOp o → IsLine (op_text bs o) (op_words bs o)
+pub op-line : (bs : List ℕ) (o : Op) → ranges.IsName bs → ranges.FitsOp o → IsLine (call_lines.op_text bs o) (op_words bs o)
 op-line bs (op.Map o) g h = join (word (codes "map") refl) (join (name_line bs g) (map_op-line o h))
 op-line bs (op.Value o) g h = join (word (codes "value") refl) (join (name_line bs g) (value_op-line o h))
 op-line bs (op.Long o) g h = join (word (codes "long") refl) (join (name_line bs g) (long_op-line o h))
@@ -273,7 +273,7 @@ op-line bs (op.Queue o) g h = join (word (codes "queue") refl) (join (name_line 
 op-line bs (op.Multimap o) g h = join (word (codes "multimap") refl) (join (name_line bs g) (multimap_op-line o h))
 op-line bs (op.Topic o) g h = join (word (codes "topic") refl) (join (name_line bs g) (topic_op-line o h))
 
-pub op-back : (bs : List ℕ) (o : Op) → IsOp o → op_back (op_words bs o) ≡ o
+pub op-back : (bs : List ℕ) (o : Op) → ranges.FitsOp o → op_back (op_words bs o) ≡ o
 op-back bs (op.Map o) h = λ i. op.Map (map_op-back o h i)
 op-back bs (op.Value o) h = λ i. op.Value (value_op-back o h i)
 op-back bs (op.Long o) h = λ i. op.Long (long_op-back o h i)

@@ -20,8 +20,8 @@ use Rattle.ax_types.specs.declared.ops.TopicQuery.{TopicQuery}
 use Rattle.ax_types.specs.declared.ops.TopicQuery.TheVariants as topic_query
 use Rattle.ax_types.specs.declared.ops.Query.{Query}
 use Rattle.ax_types.specs.declared.ops.Query.TheVariants as query
-use Rattle.spec_report.specs.Calls.{map_query_text, value_query_text, long_query_text, lock_query_text, group_query_text, set_query_text, queue_query_text, multimap_query_text, topic_query_text, query_text}
-use Rattle.law_report.specs.Forms.{IsName, IsMapQuery, IsSetQuery, IsMultimapQuery, IsQuery}
+use Rattle.spec_report.specs.CallLines as call_lines
+use Rattle.spec_wire.specs.Ranges as ranges
 use Rattle.law_report.proofs.Words.{IsLine, word, join, at, is_word}
 use Rattle.law_report.proofs.Numbers.{name_line, text_line}
 
@@ -36,12 +36,12 @@ map_query_back ws =
     cond (is_word (at 0 ws) (codes "contains")) (map_query.Contains (at 1 ws)) (
     map_query.Size))
 
-pub map_query-line : (o : MapQuery) → IsMapQuery o → IsLine (map_query_text o) (map_query_words o)
+pub map_query-line : (o : MapQuery) → ranges.FitsMapQuery o → IsLine (call_lines.map_query_text o) (map_query_words o)
 map_query-line (map_query.Get key) h = join (word (codes "get") refl) (name_line key h)
 map_query-line (map_query.Contains key) h = join (word (codes "contains") refl) (name_line key h)
 map_query-line map_query.Size h = word (codes "size") refl
 
-pub map_query-back : (o : MapQuery) → IsMapQuery o → map_query_back (map_query_words o) ≡ o
+pub map_query-back : (o : MapQuery) → ranges.FitsMapQuery o → map_query_back (map_query_words o) ≡ o
 map_query-back (map_query.Get key) h = refl
 map_query-back (map_query.Contains key) h = refl
 map_query-back map_query.Size h = refl
@@ -53,7 +53,7 @@ abbrev pub value_query_back : List (List ℕ) → ValueQuery
 value_query_back ws =
     value_query.Get
 
-pub value_query-line : (o : ValueQuery) → IsLine (value_query_text o) (value_query_words o)
+pub value_query-line : (o : ValueQuery) → IsLine (call_lines.value_query_text o) (value_query_words o)
 value_query-line value_query.Get = word (codes "get") refl
 
 pub value_query-back : (o : ValueQuery) → value_query_back (value_query_words o) ≡ o
@@ -66,7 +66,7 @@ abbrev pub long_query_back : List (List ℕ) → LongQuery
 long_query_back ws =
     long_query.Get
 
-pub long_query-line : (o : LongQuery) → IsLine (long_query_text o) (long_query_words o)
+pub long_query-line : (o : LongQuery) → IsLine (call_lines.long_query_text o) (long_query_words o)
 long_query-line long_query.Get = word (codes "get") refl
 
 pub long_query-back : (o : LongQuery) → long_query_back (long_query_words o) ≡ o
@@ -81,7 +81,7 @@ lock_query_back ws =
     cond (is_word (at 0 ws) (codes "holder")) lock_query.Holder (
     lock_query.Waiting)
 
-pub lock_query-line : (o : LockQuery) → IsLine (lock_query_text o) (lock_query_words o)
+pub lock_query-line : (o : LockQuery) → IsLine (call_lines.lock_query_text o) (lock_query_words o)
 lock_query-line lock_query.Holder = word (codes "holder") refl
 lock_query-line lock_query.Waiting = word (codes "waiting") refl
 
@@ -98,7 +98,7 @@ group_query_back ws =
     cond (is_word (at 0 ws) (codes "members")) group_query.Members (
     group_query.Leader)
 
-pub group_query-line : (o : GroupQuery) → IsLine (group_query_text o) (group_query_words o)
+pub group_query-line : (o : GroupQuery) → IsLine (call_lines.group_query_text o) (group_query_words o)
 group_query-line group_query.Members = word (codes "members") refl
 group_query-line group_query.Leader = word (codes "leader") refl
 
@@ -115,11 +115,11 @@ set_query_back ws =
     cond (is_word (at 0 ws) (codes "contains")) (set_query.Contains (at 1 ws)) (
     set_query.Size)
 
-pub set_query-line : (o : SetQuery) → IsSetQuery o → IsLine (set_query_text o) (set_query_words o)
+pub set_query-line : (o : SetQuery) → ranges.FitsSetQuery o → IsLine (call_lines.set_query_text o) (set_query_words o)
 set_query-line (set_query.Contains text) h = join (word (codes "contains") refl) (text_line text h)
 set_query-line set_query.Size h = word (codes "size") refl
 
-pub set_query-back : (o : SetQuery) → IsSetQuery o → set_query_back (set_query_words o) ≡ o
+pub set_query-back : (o : SetQuery) → ranges.FitsSetQuery o → set_query_back (set_query_words o) ≡ o
 set_query-back (set_query.Contains text) h = refl
 set_query-back set_query.Size h = refl
 
@@ -132,7 +132,7 @@ queue_query_back ws =
     cond (is_word (at 0 ws) (codes "peek")) queue_query.Peek (
     queue_query.Size)
 
-pub queue_query-line : (o : QueueQuery) → IsLine (queue_query_text o) (queue_query_words o)
+pub queue_query-line : (o : QueueQuery) → IsLine (call_lines.queue_query_text o) (queue_query_words o)
 queue_query-line queue_query.Peek = word (codes "peek") refl
 queue_query-line queue_query.Size = word (codes "size") refl
 
@@ -151,12 +151,12 @@ multimap_query_back ws =
     cond (is_word (at 0 ws) (codes "count")) (multimap_query.Count (at 1 ws)) (
     multimap_query.Size))
 
-pub multimap_query-line : (o : MultimapQuery) → IsMultimapQuery o → IsLine (multimap_query_text o) (multimap_query_words o)
+pub multimap_query-line : (o : MultimapQuery) → ranges.FitsMultimapQuery o → IsLine (call_lines.multimap_query_text o) (multimap_query_words o)
 multimap_query-line (multimap_query.Contains key text) h = join (word (codes "contains") refl) (join (name_line key h.0) (text_line text h.1))
 multimap_query-line (multimap_query.Count key) h = join (word (codes "count") refl) (name_line key h)
 multimap_query-line multimap_query.Size h = word (codes "size") refl
 
-pub multimap_query-back : (o : MultimapQuery) → IsMultimapQuery o → multimap_query_back (multimap_query_words o) ≡ o
+pub multimap_query-back : (o : MultimapQuery) → ranges.FitsMultimapQuery o → multimap_query_back (multimap_query_words o) ≡ o
 multimap_query-back (multimap_query.Contains key text) h = refl
 multimap_query-back (multimap_query.Count key) h = refl
 multimap_query-back multimap_query.Size h = refl
@@ -168,7 +168,7 @@ abbrev pub topic_query_back : List (List ℕ) → TopicQuery
 topic_query_back ws =
     topic_query.Subscribers
 
-pub topic_query-line : (o : TopicQuery) → IsLine (topic_query_text o) (topic_query_words o)
+pub topic_query-line : (o : TopicQuery) → IsLine (call_lines.topic_query_text o) (topic_query_words o)
 topic_query-line topic_query.Subscribers = word (codes "subscribers") refl
 
 pub topic_query-back : (o : TopicQuery) → topic_query_back (topic_query_words o) ≡ o
@@ -197,7 +197,7 @@ query_back ws =
     cond (is_word (at 0 ws) (codes "multimap")) (query.Multimap (multimap_query_back (drop 2 ws))) (
     (query.Topic (topic_query_back (drop 2 ws)))))))))))
 
-pub query-line : (bs : List ℕ) (q : Query) → IsName bs → IsQuery q → IsLine (query_text bs q) (query_words bs q)
+pub query-line : (bs : List ℕ) (q : Query) → ranges.IsName bs → ranges.FitsQuery q → IsLine (call_lines.query_text bs q) (query_words bs q)
 query-line bs (query.Map q) g h = join (word (codes "map") refl) (join (name_line bs g) (map_query-line q h))
 query-line bs (query.Value q) g h = join (word (codes "value") refl) (join (name_line bs g) (value_query-line q))
 query-line bs (query.Long q) g h = join (word (codes "long") refl) (join (name_line bs g) (long_query-line q))
@@ -208,7 +208,7 @@ query-line bs (query.Queue q) g h = join (word (codes "queue") refl) (join (name
 query-line bs (query.Multimap q) g h = join (word (codes "multimap") refl) (join (name_line bs g) (multimap_query-line q h))
 query-line bs (query.Topic q) g h = join (word (codes "topic") refl) (join (name_line bs g) (topic_query-line q))
 
-pub query-back : (bs : List ℕ) (q : Query) → IsQuery q → query_back (query_words bs q) ≡ q
+pub query-back : (bs : List ℕ) (q : Query) → ranges.FitsQuery q → query_back (query_words bs q) ≡ q
 query-back bs (query.Map q) h = λ i. query.Map (map_query-back q h i)
 query-back bs (query.Value q) h = λ i. query.Value (value_query-back q i)
 query-back bs (query.Long q) h = λ i. query.Long (long_query-back q i)

@@ -7,17 +7,18 @@ use Rattle.ax_types.specs.declared.replies.Event.{Event}
 use Rattle.ax_types.specs.declared.replies.Event.TheVariants as event
 use Rattle.ax_types.specs.declared.replies.How.{How}
 use Rattle.ax_types.specs.declared.replies.How.TheVariants as how
-use Rattle.spec_report.specs.Replies.{numbers_text, reply_text, event_text, events_text, how_text}
-use Rattle.law_report.specs.Forms.{IsNumber, Each, IsReply, IsEvent}
+use Rattle.spec_report.specs.Replies as replies
+use Rattle.std.specs.List.{AllByRecursion}
+use Rattle.spec_wire.specs.Ranges as ranges
 use Rattle.law_report.proofs.Words.{IsLine, word, join, at, is_word}
 use Rattle.law_report.proofs.Numbers.{number_back, number-back, integer_back, integer-back, number_line, integer_line, name_line, text_line}
 
 -- numbers behind a line, each after a blank
-numbers-line : (t : List ℕ) (ws : List (List ℕ)) → IsLine t ws → (ns : List ℕ) → IsLine (t ++ numbers_text ns) (ws ++ map decimal ns)
+numbers-line : (t : List ℕ) (ws : List (List ℕ)) → IsLine t ws → (ns : List ℕ) → IsLine (t ++ replies.numbers_text ns) (ws ++ map decimal ns)
 numbers-line t ws h [] = subst (λ s. IsLine s (ws ++ [])) (sym (append-nil t)) (subst (IsLine t) (sym (append-nil ws)) h)
 numbers-line t ws h (n ∷ ns) = join h (numbers-line (decimal n) (decimal n ∷ []) (number_line n) ns)
 
-numbers-back : (ns : List ℕ) → Each IsNumber ns → map number_back (map decimal ns) ≡ ns
+numbers-back : (ns : List ℕ) → AllByRecursion ranges.IsNumber ns → map number_back (map decimal ns) ≡ ns
 numbers-back [] h = refl
 numbers-back (n ∷ ns) h = λ i. number-back n h.0 i ∷ numbers-back ns h.1 i
 
@@ -60,7 +61,7 @@ reply_back ws =
     cond (is_word (at 0 ws) (codes "full")) reply.Full (
     reply.WrongKind))))))))))))))))
 
-pub reply-line : (o : Reply) → IsReply o → IsLine (reply_text o) (reply_words o)
+pub reply-line : (o : Reply) → ranges.FitsReply o → IsLine (replies.reply_text o) (reply_words o)
 reply-line reply.Done h = word (codes "done") refl
 reply-line reply.Nothing h = word (codes "none") refl
 reply-line (reply.Found text) h = join (word (codes "some") refl) (text_line text h)
@@ -79,7 +80,7 @@ reply-line reply.Overflow h = word (codes "overflow") refl
 reply-line reply.Full h = word (codes "full") refl
 reply-line reply.WrongKind h = word (codes "wrong-kind") refl
 
-pub reply-back : (o : Reply) → IsReply o → reply_back (reply_words o) ≡ o
+pub reply-back : (o : Reply) → ranges.FitsReply o → reply_back (reply_words o) ≡ o
 reply-back reply.Done h = refl
 reply-back reply.Nothing h = refl
 reply-back (reply.Found text) h = refl
@@ -121,7 +122,7 @@ event_back ws =
     cond (is_word (at 0 ws) (codes "elected")) (event.Elected (at 1 ws) (number_back (at 2 ws)) (number_back (at 3 ws))) (
     (event.Message (at 1 ws) (at 2 ws))))))))))
 
-pub event-line : (o : Event) → IsEvent o → IsLine (event_text o) (event_words o)
+pub event-line : (o : Event) → ranges.FitsEvent o → IsLine (replies.event_text o) (event_words o)
 event-line (event.Changed name key text) h = join (word (codes "changed") refl) (join (name_line name h.0) (join (name_line key h.1) (text_line text h.2)))
 event-line (event.Removed name key) h = join (word (codes "removed") refl) (join (name_line name h.0) (name_line key h.1))
 event-line (event.Set name text) h = join (word (codes "set") refl) (join (name_line name h.0) (text_line text h.1))
@@ -133,7 +134,7 @@ event-line (event.Elected name session term) h = join (word (codes "elected") re
 event-line (event.Message name text) h = join (word (codes "message") refl) (join (name_line name h.0) (text_line text h.1))
 
 -- an event is read back from the front of words
-pub event-back : (o : Event) → IsEvent o → (rest : List (List ℕ)) → event_back (event_words o ++ rest) ≡ o
+pub event-back : (o : Event) → ranges.FitsEvent o → (rest : List (List ℕ)) → event_back (event_words o ++ rest) ≡ o
 event-back (event.Changed name key text) h rest = refl
 event-back (event.Removed name key) h rest = refl
 event-back (event.Set name text) h rest = refl
@@ -174,7 +175,7 @@ event-length (event.Elected name session term) = omega arith
 event-length (event.Message name text) = omega arith
 
 -- an event alone
-pub event-alone : (o : Event) → IsEvent o → event_back (event_words o) ≡ o
+pub event-alone : (o : Event) → ranges.FitsEvent o → event_back (event_words o) ≡ o
 event-alone o h = ap event_back (sym (append-nil (event_words o))) ∙ event-back o h []
 
 abbrev pub events_words : List Event → List (List ℕ)
@@ -188,9 +189,9 @@ events_back (suc n) [] = []
 events_back (suc n) (w ∷ ws) = event_back (w ∷ ws) ∷ events_back n (event_rest (w ∷ ws))
 
 -- events behind a line, each after a blank
-pub events-line : (t : List ℕ) (ws : List (List ℕ)) → IsLine t ws → (es : List Event) → Each IsEvent es → IsLine (t ++ events_text es) (ws ++ events_words es)
+pub events-line : (t : List ℕ) (ws : List (List ℕ)) → IsLine t ws → (es : List Event) → AllByRecursion ranges.FitsEvent es → IsLine (t ++ replies.events_text es) (ws ++ events_words es)
 events-line t ws h [] k = subst (λ s. IsLine s (ws ++ [])) (sym (append-nil t)) (subst (IsLine t) (sym (append-nil ws)) h)
-events-line t ws h (e ∷ es) k = join h (events-line (event_text e) (event_words e) (event-line e k.0) es k.1)
+events-line t ws h (e ∷ es) k = join h (events-line (replies.event_text e) (event_words e) (event-line e k.0) es k.1)
 
 events_back-step : (o : Event) (rest : List (List ℕ)) (n : ℕ) → events_back (suc n) (event_words o ++ rest) ≡ event_back (event_words o ++ rest) ∷ events_back n (event_rest (event_words o ++ rest))
 events_back-step (event.Changed name key text) rest n = refl
@@ -203,7 +204,7 @@ events_back-step (event.Left name session) rest n = refl
 events_back-step (event.Elected name session term) rest n = refl
 events_back-step (event.Message name text) rest n = refl
 
-pub events-back : (es : List Event) (n : ℕ) → length es ≤ n → Each IsEvent es → events_back n (events_words es) ≡ es
+pub events-back : (es : List Event) (n : ℕ) → length es ≤ n → AllByRecursion ranges.FitsEvent es → events_back n (events_words es) ≡ es
 events-back [] zero l h = refl
 events-back [] (suc n) l h = refl
 events-back (e ∷ es) zero l h = absurd (omega (arith, l))
@@ -219,10 +220,10 @@ events-length (e ∷ es) = omega (arith, events-length es, event-length e, lengt
 abbrev pub how_back : List ℕ → How
 how_back w = cond (is_word w (codes "closed")) how.Closed how.Expired
 
-pub how-line : (o : How) → IsLine (how_text o) (how_text o ∷ [])
+pub how-line : (o : How) → IsLine (replies.how_text o) (replies.how_text o ∷ [])
 how-line how.Closed = word (codes "closed") refl
 how-line how.Expired = word (codes "expired") refl
 
-pub how-back : (o : How) → how_back (how_text o) ≡ o
+pub how-back : (o : How) → how_back (replies.how_text o) ≡ o
 how-back how.Closed = refl
 how-back how.Expired = refl

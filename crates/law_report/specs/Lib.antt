@@ -1,2 +1,2 @@
-pub mod Forms
-pub mod Laws
+pub mod ReportValues
+pub mod ReportsDiffer

@@ -24,50 +24,50 @@ use Rattle.ax_types.specs.declared.ops.Query.TheVariants as query
 use Rattle.ax_types.specs.declared.ops.Level.{Level}
 use Rattle.ax_types.specs.declared.ops.Level.TheVariants.{Seq, Lin}
 use Rattle.ax_types.specs.declared.ops.WindowCall.TheVariants as call
-use Rattle.spec_text.specs.Numbers.{Word}
-use Rattle.spec_text.specs.Operations.{leveled_call_of, query_call_of, map_query_of, value_query_of, long_query_of, lock_query_of, group_query_of, set_query_of, queue_query_of, multimap_query_of, topic_query_of}
-use Rattle.spec_report.specs.Calls.{level_text}
-use Rattle.law_report.specs.Forms.{IsName, IsMapQuery, IsSetQuery, IsMultimapQuery, IsQuery}
+use Rattle.spec_text.specs.Words as text_words
+use Rattle.spec_text.specs.OperationWords as operation_words
+use Rattle.spec_report.specs.CallLines as call_lines
+use Rattle.spec_wire.specs.Ranges as ranges
 use Rattle.law_report.proofs.Queries.{map_query_words, value_query_words, long_query_words, lock_query_words, group_query_words, set_query_words, queue_query_words, multimap_query_words, topic_query_words, query_words}
 use Rattle.law_script.proofs.Parts.{both-read, read_by, name-read, pair-read, text-read}
 
-pub map_query-read : (o : MapQuery) → IsMapQuery o → read_by map_query_of (map_query_words o) ≡ Some o
+pub map_query-read : (o : MapQuery) → ranges.FitsMapQuery o → read_by operation_words.map_query_of (map_query_words o) ≡ Some o
 map_query-read (map_query.Get k) h = ap (option_map map_query.Get) (name-read k h)
 map_query-read (map_query.Contains k) h = ap (option_map map_query.Contains) (name-read k h)
 map_query-read map_query.Size h = refl
 
-pub value_query-read : (o : ValueQuery) → read_by value_query_of (value_query_words o) ≡ Some o
+pub value_query-read : (o : ValueQuery) → read_by operation_words.value_query_of (value_query_words o) ≡ Some o
 value_query-read value_query.Get = refl
 
-pub long_query-read : (o : LongQuery) → read_by long_query_of (long_query_words o) ≡ Some o
+pub long_query-read : (o : LongQuery) → read_by operation_words.long_query_of (long_query_words o) ≡ Some o
 long_query-read long_query.Get = refl
 
-pub lock_query-read : (o : LockQuery) → read_by lock_query_of (lock_query_words o) ≡ Some o
+pub lock_query-read : (o : LockQuery) → read_by operation_words.lock_query_of (lock_query_words o) ≡ Some o
 lock_query-read lock_query.Holder = refl
 lock_query-read lock_query.Waiting = refl
 
-pub group_query-read : (o : GroupQuery) → read_by group_query_of (group_query_words o) ≡ Some o
+pub group_query-read : (o : GroupQuery) → read_by operation_words.group_query_of (group_query_words o) ≡ Some o
 group_query-read group_query.Members = refl
 group_query-read group_query.Leader = refl
 
-pub set_query-read : (o : SetQuery) → IsSetQuery o → read_by set_query_of (set_query_words o) ≡ Some o
+pub set_query-read : (o : SetQuery) → ranges.FitsSetQuery o → read_by operation_words.set_query_of (set_query_words o) ≡ Some o
 set_query-read (set_query.Contains v) h = ap (option_map set_query.Contains) (text-read v h)
 set_query-read set_query.Size h = refl
 
-pub queue_query-read : (o : QueueQuery) → read_by queue_query_of (queue_query_words o) ≡ Some o
+pub queue_query-read : (o : QueueQuery) → read_by operation_words.queue_query_of (queue_query_words o) ≡ Some o
 queue_query-read queue_query.Peek = refl
 queue_query-read queue_query.Size = refl
 
-pub multimap_query-read : (o : MultimapQuery) → IsMultimapQuery o → read_by multimap_query_of (multimap_query_words o) ≡ Some o
-multimap_query-read (multimap_query.Contains k v) h = ap (option_map (λ (p : Word × Word). multimap_query.Contains p.0 p.1)) (pair-read (name-read k h.0) (text-read v h.1))
+pub multimap_query-read : (o : MultimapQuery) → ranges.FitsMultimapQuery o → read_by operation_words.multimap_query_of (multimap_query_words o) ≡ Some o
+multimap_query-read (multimap_query.Contains k v) h = ap (option_map (λ (p : text_words.Word × text_words.Word). multimap_query.Contains p.0 p.1)) (pair-read (name-read k h.0) (text-read v h.1))
 multimap_query-read (multimap_query.Count k) h = ap (option_map multimap_query.Count) (name-read k h)
 multimap_query-read multimap_query.Size h = refl
 
-pub topic_query-read : (o : TopicQuery) → read_by topic_query_of (topic_query_words o) ≡ Some o
+pub topic_query-read : (o : TopicQuery) → read_by operation_words.topic_query_of (topic_query_words o) ≡ Some o
 topic_query-read topic_query.Subscribers = refl
 
 -- `KIND NAME QUERY`, at a level
-pub query_call-read : (level : Level) (name : Word) (q : Query) → IsName name → IsQuery q → query_call_of level (query_words name q) ≡ Some (call.Query level name q)
+pub query_call-read : (level : Level) (name : text_words.Word) (q : Query) → ranges.IsName name → ranges.FitsQuery q → operation_words.query_call_of level (query_words name q) ≡ Some (call.Query level name q)
 query_call-read level name (query.Map (map_query.Get k)) g h = both-read (call.Query level) (name-read name g) (ap (option_map query.Map) (map_query-read (map_query.Get k) h))
 query_call-read level name (query.Map (map_query.Contains k)) g h = both-read (call.Query level) (name-read name g) (ap (option_map query.Map) (map_query-read (map_query.Contains k) h))
 query_call-read level name (query.Map map_query.Size) g h = both-read (call.Query level) (name-read name g) (ap (option_map query.Map) (map_query-read map_query.Size h))
@@ -87,6 +87,6 @@ query_call-read level name (query.Multimap multimap_query.Size) g h = both-read 
 query_call-read level name (query.Topic topic_query.Subscribers) g h = both-read (call.Query level) (name-read name g) (ap (option_map query.Topic) (topic_query-read topic_query.Subscribers))
 
 -- `LEVEL KIND NAME QUERY`
-pub leveled_call-read : (level : Level) (name : Word) (q : Query) → IsName name → IsQuery q → leveled_call_of (level_text level ∷ query_words name q) ≡ Some (call.Query level name q)
+pub leveled_call-read : (level : Level) (name : text_words.Word) (q : Query) → ranges.IsName name → ranges.FitsQuery q → operation_words.leveled_call_of (call_lines.level_text level ∷ query_words name q) ≡ Some (call.Query level name q)
 leveled_call-read Seq name q g h = query_call-read Seq name q g h
 leveled_call-read Lin name q g h = query_call-read Lin name q g h

@@ -2,7 +2,7 @@
 use Rattle.std.proofs.Common.{◌≡◌, ℕ, Bool, true, false, cond, nat_eq, List, [], ◌∷◌, refl, ap, ◌∙◌}
 use Rattle.std.specs.Prelude.{◌==◌}
 use Rattle.std.specs.List.{onto_first, slice_split}
-use Rattle.spec_text.specs.Numbers.{Word, words_of}
+use Rattle.spec_text.specs.Words as text_words
 use Rattle.law_report.proofs.Words.{IsLine, first, others, pieces}
 
 onto : (x : ℕ) (b : Bool) (f : List ℕ) (o parts : List (List ℕ)) → parts ≡ f ∷ o
@@ -15,5 +15,5 @@ slice_split-pieces c [] = refl
 slice_split-pieces c (x ∷ xs) = onto x (nat_eq x c) (first c xs) (others c xs) (slice_split (λ b. b == c) xs) (slice_split-pieces c xs)
 
 -- a line has the words that it is made of
-pub words-line : {t : List ℕ} {ws : List Word} → IsLine t ws → words_of t ≡ ws
+pub words-line : {t : List ℕ} {ws : List text_words.Word} → IsLine t ws → text_words.words_of t ≡ ws
 words-line {t} {ws} h = slice_split-pieces 32 t ∙ h.words

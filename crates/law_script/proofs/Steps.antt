@@ -4,7 +4,7 @@ use Rattle.std.proofs.lemmas.Bool.Decides.{nat_tests}
 use Rattle.std.specs.Prelude.{Some, None, option_and_then, option_map, if◌then◌else◌}
 use Rattle.std.specs.Option.{option_or}
 use Rattle.std.specs.Fmt.{decimal}
-use Rattle.ax_types.specs.Ends.{end_text}
+use Rattle.ax_types.specs.Ends as ends
 use Rattle.ax_types.specs.declared.ids.End.{End}
 use Rattle.ax_types.specs.declared.ids.End.TheVariants.{Node, Client}
 use Rattle.ax_types.specs.declared.ops.Level.{Level}
@@ -13,15 +13,15 @@ use Rattle.ax_types.specs.declared.steps.Step.{Step}
 use Rattle.ax_types.specs.declared.steps.Step.TheVariants as step
 use Rattle.ax_types.specs.declared.steps.WatchKind.{WatchKind}
 use Rattle.ax_types.specs.declared.steps.WatchKind.TheVariants.{All, Changes, Grants}
-use Rattle.spec_report.specs.Calls.{level_text}
-use Rattle.spec_report.specs.Items.{watch_text}
-use Rattle.spec_text.specs.Numbers.{Word, words_of}
-use Rattle.spec_script.specs.Steps.{call_step_of, client_step_of, end_of, link_between, link_of, made_call, network_step_of, node_step_of, step_of, step_text, watch_kind_of}
+use Rattle.spec_report.specs.CallLines as call_lines
+use Rattle.spec_report.specs.Items as items
+use Rattle.spec_text.specs.Words as text_words
+use Rattle.spec_script.specs.StepLines as step_lines
 use Rattle.law_report.proofs.Words.{IsLine, above, all-weaker, join, word}
 use Rattle.law_report.proofs.Numbers.{decimal-above, number_line}
 use Rattle.law_report.proofs.Operations.{op-line, op_words}
 use Rattle.law_report.proofs.Queries.{query-line, query_words}
-use Rattle.law_script.specs.Forms.{IsEndOf, IsLinkOf, IsStep}
+use Rattle.law_script.specs.StepForms as step_forms
 use Rattle.law_script.proofs.Numbers.{number_within-read}
 use Rattle.law_script.proofs.Operations.{command_call-read}
 use Rattle.law_script.proofs.Parts.{both-read, pair-read}
@@ -29,15 +29,15 @@ use Rattle.law_script.proofs.Queries.{leveled_call-read}
 use Rattle.law_script.proofs.Splits.{words-line}
 
 -- the words of a step
-abbrev pub step_words : Step → List Word
+abbrev pub step_words : Step → List text_words.Word
 step_words (step.Elect node) = codes "elect" ∷ decimal node ∷ []
 step_words (step.Beat node) = codes "beat" ∷ decimal node ∷ []
 step_words (step.Crash node) = codes "crash" ∷ decimal node ∷ []
 step_words (step.Start node) = codes "start" ∷ decimal node ∷ []
 step_words (step.Clock node time) = codes "clock" ∷ decimal node ∷ decimal time ∷ []
 step_words (step.Expire node) = codes "expire" ∷ decimal node ∷ []
-step_words (step.Cut one other) = codes "cut" ∷ end_text one ∷ end_text other ∷ []
-step_words (step.Join one other) = codes "join" ∷ end_text one ∷ end_text other ∷ []
+step_words (step.Cut one other) = codes "cut" ∷ ends.link_end_text one ∷ ends.link_end_text other ∷ []
+step_words (step.Join one other) = codes "join" ∷ ends.link_end_text one ∷ ends.link_end_text other ∷ []
 step_words (step.Deliver number) = codes "deliver" ∷ decimal number ∷ []
 step_words (step.Drop number) = codes "drop" ∷ decimal number ∷ []
 step_words (step.Short number bytes) = codes "short" ∷ decimal number ∷ decimal bytes ∷ []
@@ -47,29 +47,29 @@ step_words (step.Switch client node) = codes "switch" ∷ decimal client ∷ dec
 step_words (step.Resend client) = codes "resend" ∷ decimal client ∷ []
 step_words (step.Keep client) = codes "keep" ∷ decimal client ∷ []
 step_words (step.Close client) = codes "close" ∷ decimal client ∷ []
-step_words (step.Watch client kind) = codes "watch" ∷ decimal client ∷ watch_text kind ∷ []
+step_words (step.Watch client kind) = codes "watch" ∷ decimal client ∷ items.watch_text kind ∷ []
 step_words (step.Call client name op) = codes "call" ∷ decimal client ∷ op_words name op
-step_words (step.Query client level name query) = codes "query" ∷ decimal client ∷ level_text level ∷ query_words name query
+step_words (step.Query client level name query) = codes "query" ∷ decimal client ∷ call_lines.level_text level ∷ query_words name query
 
 -- ---- the text of a step is a line of these words
 
 number-above : (n : ℕ) → above 32 (decimal n) ≡ true
 number-above n = all-weaker (nat_lt 46) (nat_lt 32) (λ x e. grind (arith, nat_tests)) (decimal n) (decimal-above n)
 
-end-line : (e : End) → IsLine (end_text e) (end_text e ∷ [])
+end-line : (e : End) → IsLine (ends.link_end_text e) (ends.link_end_text e ∷ [])
 end-line (Node k) = word (110 ∷ decimal k) (number-above k)
 end-line (Client c) = word (99 ∷ decimal c) (number-above c)
 
-watch-line : (kind : WatchKind) → IsLine (watch_text kind) (watch_text kind ∷ [])
+watch-line : (kind : WatchKind) → IsLine (items.watch_text kind) (items.watch_text kind ∷ [])
 watch-line All = word (codes "all") refl
 watch-line Changes = word (codes "changes") refl
 watch-line Grants = word (codes "grants") refl
 
-level-line : (level : Level) → IsLine (level_text level) (level_text level ∷ [])
+level-line : (level : Level) → IsLine (call_lines.level_text level) (call_lines.level_text level ∷ [])
 level-line Seq = word (codes "seq") refl
 level-line Lin = word (codes "lin") refl
 
-pub step-line : (nodes clients : ℕ) (s : Step) → IsStep nodes clients s → IsLine (step_text s) (step_words s)
+pub step-line : (nodes clients : ℕ) (s : Step) → step_forms.IsStep nodes clients s → IsLine (step_lines.step_text s) (step_words s)
 step-line nodes clients (step.Elect node) h = join (word (codes "elect") refl) (number_line node)
 step-line nodes clients (step.Beat node) h = join (word (codes "beat") refl) (number_line node)
 step-line nodes clients (step.Crash node) h = join (word (codes "crash") refl) (number_line node)
@@ -94,43 +94,43 @@ step-line nodes clients (step.Query client level name query) h =
 
 -- ---- the words of a step are read as that step
 
-end-read : (nodes clients : ℕ) (e : End) → nodes ≤ 9 → clients ≤ 16 → IsEndOf nodes clients e → end_of nodes clients (end_text e) ≡ Some e
+end-read : (nodes clients : ℕ) (e : End) → nodes ≤ 9 → clients ≤ 16 → step_forms.IsLinkEnd nodes clients e → step_lines.end_of nodes clients (ends.link_end_text e) ≡ Some e
 end-read nodes clients (Node k) n c h = ap (option_map Node) (number_within-read 1 nodes k (omega arith) h)
 end-read nodes clients (Client k) n c h = ap (option_map Client) (number_within-read 1 clients k (omega arith) h)
 
-link-read : (nodes clients : ℕ) (one other : End) → nodes ≤ 9 → clients ≤ 16 → IsLinkOf nodes clients one other
-    → link_of nodes clients (end_text one ∷ end_text other ∷ []) ≡ Some (one, other)
+link-read : (nodes clients : ℕ) (one other : End) → nodes ≤ 9 → clients ≤ 16 → step_forms.IsLinkOf nodes clients one other
+    → step_lines.link_of nodes clients (ends.link_end_text one ∷ ends.link_end_text other ∷ []) ≡ Some (one, other)
 link-read nodes clients one other n c h =
-    (λ i. option_and_then (λ e. option_and_then (link_between e) (end-read nodes clients other n c h.1 i)) (end-read nodes clients one n c h.0 i))
+    (λ i. option_and_then (λ e. option_and_then (step_lines.link_between e) (end-read nodes clients other n c h.1 i)) (end-read nodes clients one n c h.0 i))
     ∙ ap (λ v. if v then Some (one, other) else None) h.2
 
-watch-read : (kind : WatchKind) → watch_kind_of (watch_text kind) ≡ Some kind
+watch-read : (kind : WatchKind) → step_lines.watch_kind_of (items.watch_text kind) ≡ Some kind
 watch-read All = refl
 watch-read Changes = refl
 watch-read Grants = refl
 
-node_found : (nodes clients : ℕ) (s : Step) → node_step_of nodes (step_words s) ≡ Some s → step_of nodes clients (step_words s) ≡ Some s
+node_found : (nodes clients : ℕ) (s : Step) → step_lines.node_step_of nodes (step_words s) ≡ Some s → step_lines.step_of nodes clients (step_words s) ≡ Some s
 node_found nodes clients s h =
-    let ws : List Word = step_words s in
-    ap (λ o. option_or o (option_or (network_step_of nodes clients ws) (option_or (client_step_of nodes clients ws) (call_step_of clients ws)))) h
+    let ws : List text_words.Word = step_words s in
+    ap (λ o. option_or o (option_or (step_lines.network_step_of nodes clients ws) (option_or (step_lines.client_step_of nodes clients ws) (step_lines.call_step_of clients ws)))) h
 
-network_found : (nodes clients : ℕ) (s : Step) → node_step_of nodes (step_words s) ≡ None → network_step_of nodes clients (step_words s) ≡ Some s
-    → step_of nodes clients (step_words s) ≡ Some s
+network_found : (nodes clients : ℕ) (s : Step) → step_lines.node_step_of nodes (step_words s) ≡ None → step_lines.network_step_of nodes clients (step_words s) ≡ Some s
+    → step_lines.step_of nodes clients (step_words s) ≡ Some s
 network_found nodes clients s e h =
-    let ws : List Word = step_words s in
-    λ i. option_or (e i) (option_or (h i) (option_or (client_step_of nodes clients ws) (call_step_of clients ws)))
+    let ws : List text_words.Word = step_words s in
+    λ i. option_or (e i) (option_or (h i) (option_or (step_lines.client_step_of nodes clients ws) (step_lines.call_step_of clients ws)))
 
-client_found : (nodes clients : ℕ) (s : Step) → node_step_of nodes (step_words s) ≡ None → network_step_of nodes clients (step_words s) ≡ None
-    → client_step_of nodes clients (step_words s) ≡ Some s → step_of nodes clients (step_words s) ≡ Some s
+client_found : (nodes clients : ℕ) (s : Step) → step_lines.node_step_of nodes (step_words s) ≡ None → step_lines.network_step_of nodes clients (step_words s) ≡ None
+    → step_lines.client_step_of nodes clients (step_words s) ≡ Some s → step_lines.step_of nodes clients (step_words s) ≡ Some s
 client_found nodes clients s e f h =
-    λ i. option_or (e i) (option_or (f i) (option_or (h i) (call_step_of clients (step_words s))))
+    λ i. option_or (e i) (option_or (f i) (option_or (h i) (step_lines.call_step_of clients (step_words s))))
 
-call_found : (nodes clients : ℕ) (s : Step) → node_step_of nodes (step_words s) ≡ None → network_step_of nodes clients (step_words s) ≡ None
-    → client_step_of nodes clients (step_words s) ≡ None → call_step_of clients (step_words s) ≡ Some s → step_of nodes clients (step_words s) ≡ Some s
+call_found : (nodes clients : ℕ) (s : Step) → step_lines.node_step_of nodes (step_words s) ≡ None → step_lines.network_step_of nodes clients (step_words s) ≡ None
+    → step_lines.client_step_of nodes clients (step_words s) ≡ None → step_lines.call_step_of clients (step_words s) ≡ Some s → step_lines.step_of nodes clients (step_words s) ≡ Some s
 call_found nodes clients s e f g h = λ i. option_or (e i) (option_or (f i) (option_or (g i) (h i)))
 
 -- numbers of a cluster have 64 bits
-pub step-read : (nodes clients : ℕ) (s : Step) → nodes ≤ 9 → clients ≤ 16 → IsStep nodes clients s → step_of nodes clients (step_words s) ≡ Some s
+pub step-read : (nodes clients : ℕ) (s : Step) → nodes ≤ 9 → clients ≤ 16 → step_forms.IsStep nodes clients s → step_lines.step_of nodes clients (step_words s) ≡ Some s
 step-read nodes clients (step.Elect node) n c h =
     node_found nodes clients (step.Elect node) (ap (option_map step.Elect) (number_within-read 1 nodes node (omega arith) h))
 step-read nodes clients (step.Beat node) n c h =
@@ -173,11 +173,11 @@ step-read nodes clients (step.Watch client kind) n c h =
     (pair-read (number_within-read 1 clients client (omega arith) h) (watch-read kind)))
 step-read nodes clients (step.Call client name op) n c h =
     call_found nodes clients (step.Call client name op) refl refl refl
-    (both-read made_call (number_within-read 1 clients client (omega arith) h.0) (command_call-read name op h.1 h.2 h.3))
+    (both-read step_lines.made_call (number_within-read 1 clients client (omega arith) h.0) (command_call-read name op h.1 h.2 h.3))
 step-read nodes clients (step.Query client level name query) n c h =
     call_found nodes clients (step.Query client level name query) refl refl refl
-    (both-read made_call (number_within-read 1 clients client (omega arith) h.0) (leveled_call-read level name query h.1 h.2))
+    (both-read step_lines.made_call (number_within-read 1 clients client (omega arith) h.0) (leveled_call-read level name query h.1 h.2))
 
 -- the text of a step is read as that step
-pub step-back : (nodes clients : ℕ) (s : Step) → nodes ≤ 9 → clients ≤ 16 → IsStep nodes clients s → step_of nodes clients (words_of (step_text s)) ≡ Some s
-step-back nodes clients s n c h = ap (step_of nodes clients) (words-line (step-line nodes clients s h)) ∙ step-read nodes clients s n c h
+pub step-back : (nodes clients : ℕ) (s : Step) → nodes ≤ 9 → clients ≤ 16 → step_forms.IsStep nodes clients s → step_lines.step_of nodes clients (text_words.words_of (step_lines.step_text s)) ≡ Some s
+step-back nodes clients s n c h = ap (step_lines.step_of nodes clients) (words-line (step-line nodes clients s h)) ∙ step-read nodes clients s n c h

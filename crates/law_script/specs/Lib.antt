@@ -1,2 +1,2 @@
-pub mod Forms
-pub mod Laws
+pub mod StepForms
+pub mod StepsReadBack

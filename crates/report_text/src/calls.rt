@@ -1,5 +1,5 @@
 ghost use Rattle.std.specs.Prelude.{◌≡◌, IfOk, string_bytes};
-ghost use Rattle.spec_report.specs.Calls as spec;
+ghost use Rattle.spec_report.specs.CallLines as spec;
 
 use crate::pieces::{no_operand, one_operand, three_operands, two_operands};
 use ax_types::{

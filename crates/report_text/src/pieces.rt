@@ -1,5 +1,5 @@
 ghost use Rattle.std.specs.Prelude.{◌≡◌, IfOk, IfSome, string_bytes, ◌++◌, ◌∷◌, []};
-ghost use Rattle.spec_report.specs.Calls.{one_operand as one_operand_text, two_operands as two_operands_text, three_operands as three_operands_text};
+ghost use Rattle.spec_report.specs.CallLines as call_lines;
 
 use ax_types::NoMemory;
 use std::alloc::Global;
@@ -15,7 +15,7 @@ pub fn no_operand(alloc: Global, word: &str) -> Result<String, NoMemory>
 /// A word and an operand, with one blank between.
 pub fn one_operand<X: Display>(alloc: Global, word: &str, x: &X) -> Result<String, NoMemory>
     ensures { IfOk result (λ t. IfSome (X.output x.now)
-        (λ a. string_bytes t ≡ one_operand_text word.now a)) }
+        (λ a. string_bytes t ≡ call_lines.one_operand word.now a)) }
 {
     Ok(format!(in alloc; "{word} {x}")?)
 }
@@ -28,7 +28,7 @@ pub fn two_operands<X: Display, Y: Display>(
     y: &Y,
 ) -> Result<String, NoMemory>
     ensures { IfOk result (λ t. IfSome (X.output x.now) (λ a. IfSome (Y.output y.now)
-        (λ b. string_bytes t ≡ two_operands_text word.now a b))) }
+        (λ b. string_bytes t ≡ call_lines.two_operands word.now a b))) }
 {
     Ok(format!(in alloc; "{word} {x} {y}")?)
 }
@@ -42,7 +42,7 @@ pub fn three_operands<X: Display, Y: Display, Z: Display>(
     z: &Z,
 ) -> Result<String, NoMemory>
     ensures { IfOk result (λ t. IfSome (X.output x.now) (λ a. IfSome (Y.output y.now)
-        (λ b. IfSome (Z.output z.now) (λ c. string_bytes t ≡ three_operands_text word.now a b c)))) }
+        (λ b. IfSome (Z.output z.now) (λ c. string_bytes t ≡ call_lines.three_operands word.now a b c)))) }
 {
     Ok(format!(in alloc; "{word} {x} {y} {z}")?)
 }

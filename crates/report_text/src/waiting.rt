@@ -1,7 +1,7 @@
 ghost use Rattle.std.specs.Prelude.{◌≡◌, IfOk};
 ghost use Rattle.std.specs.List.{filter_map};
 ghost use Rattle.spec_report.specs.Items as spec;
-ghost use Rattle.report_text.specs.Calls.{HasCalls};
+ghost use Rattle.report_text.specs.CallTexts as call_texts;
 
 use ax_types::{Item, List, NoMemory};
 use std::alloc::Global;
@@ -23,7 +23,7 @@ fn called_of(item: &Item) -> Option<(u64, u64)>
 
 /// The session and number of an outcome.
 fn outcome_of(item: &Item) -> Option<(u64, u64)>
-    ensures { result ≡ spec.outcome_of item.now }
+    ensures { result ≡ spec.outcome_key item.now }
 {
     match item {
         Item::Reply {
@@ -46,7 +46,7 @@ fn outcome_of(item: &Item) -> Option<(u64, u64)>
 
 /// The calls that have an outcome.
 fn outcomes_of(alloc: Global, items: &[Item]) -> Result<BTreeSet<(u64, u64)>, NoMemory>
-    ensures { IfOk result (λ set. HasCalls set (filter_map spec.outcome_of items.now)) }
+    ensures { IfOk result (λ set. call_texts.HasCalls set (filter_map spec.outcome_key items.now)) }
 {
     let mut outcomes = BTreeSet::new(alloc);
     'items: for item in items {

@@ -1,9 +1,9 @@
 ghost use Rattle.std.specs.Prelude.{◌≡◌, [], IfOk, OnOk, OnErr};
-ghost use Rattle.spec_book.specs.Resources.{replied};
-ghost use Rattle.spec_book.specs.Collections.{multimap_act, multimap_ask};
+ghost use Rattle.spec_book.specs.Resources as resources;
+ghost use Rattle.spec_book.specs.Collections as collections;
 
-use crate::pairs::{MAX_PAIRS, Pairs};
-use crate::truth;
+use crate::pairs::Pairs;
+use ax_types::limits::ROOM;
 use ax_types::{
     Duplicate, Key, List, MultimapOp, MultimapQuery, Name, NoMemory, Reply, Text, Turn,
 };
@@ -44,8 +44,8 @@ impl MultimapBox {
         session: u64,
         op: &MultimapOp,
     ) -> Result<Turn, NoMemory>
-        ensures ok { IfOk result (λ turn. turn ≡ (multimap_act op.now self.old).turn) }
-        ensures after { OnOk result (self.new ≡ (multimap_act op.now self.old).state) }
+        ensures ok { IfOk result (λ turn. turn ≡ (collections.multimap_act op.now self.old).turn) }
+        ensures after { OnOk result (self.new ≡ (collections.multimap_act op.now self.old).state) }
         ensures err { OnErr result (self.new ≡ self.old) }
     {
         match op {
@@ -57,10 +57,12 @@ impl MultimapBox {
 
     /// What a query is answered.
     pub fn ask(&self, query: &MultimapQuery) -> Result<Reply, NoMemory>
-        ensures { IfOk result (λ reply. reply ≡ multimap_ask query.now self.now) }
+        ensures { IfOk result (λ reply. reply ≡ collections.multimap_ask query.now self.now) }
     {
         match query {
-            MultimapQuery::Contains { key, text } => Ok(truth(self.pairs.contains(key, text))),
+            MultimapQuery::Contains { key, text } => Ok(Reply::from(
+                self.pairs.contains(key, text),
+            )),
             MultimapQuery::Count { key } => Ok(Reply::Number(self.pairs.count(key) as i64)),
             MultimapQuery::Size => Ok(Reply::Number(self.pairs.len() as i64)),
         }
@@ -68,57 +70,47 @@ impl MultimapBox {
 
     /// The session ended: a multimap knows no session, so nothing changes.
     pub fn end(&mut self, name: &Name, place: u64, session: u64) -> Result<Turn, NoMemory>
-        ensures ok { IfOk result (λ turn. turn ≡ (replied self.old Reply.Done).turn) }
+        ensures ok { IfOk result (λ turn. turn ≡ (resources.replied self.old Reply.Done).turn) }
         ensures unchanged { self.new ≡ self.old }
     {
-        Ok(self.quiet(Reply::Done))
-    }
-
-    /// A reply, and nobody told.
-    fn quiet(&self, reply: Reply) -> Turn
-        ensures { result ≡ (replied self.now reply).turn }
-    {
-        Turn {
-            reply,
-            told: List::new(self.alloc),
-        }
+        Ok(Turn::quiet(self.alloc, Reply::Done))
     }
 
     /// Adds a pair that is not in.
     fn put(&mut self, key: &Key, text: &Text) -> Result<Turn, NoMemory>
-        ensures ok { IfOk result (λ turn. turn ≡ (multimap_act (MultimapOp.Put key.now text.now) self.old).turn) }
-        ensures after { OnOk result (self.new ≡ (multimap_act (MultimapOp.Put key.now text.now) self.old).state) }
+        ensures ok { IfOk result (λ turn. turn ≡ (collections.multimap_act (MultimapOp.Put key.now text.now) self.old).turn) }
+        ensures after { OnOk result (self.new ≡ (collections.multimap_act (MultimapOp.Put key.now text.now) self.old).state) }
         ensures err { OnErr result (self.new ≡ self.old) }
     {
         if self.pairs.contains(key, text) {
-            return Ok(self.quiet(Reply::No));
+            return Ok(Turn::quiet(self.alloc, Reply::No));
         }
-        if self.pairs.len() >= MAX_PAIRS {
-            return Ok(self.quiet(Reply::Full));
+        if self.pairs.len() >= ROOM {
+            return Ok(Turn::quiet(self.alloc, Reply::Full));
         }
         self.pairs.add(key, text)?;
-        Ok(self.quiet(Reply::Yes))
+        Ok(Turn::quiet(self.alloc, Reply::Yes))
     }
 
     /// Takes a pair out that is in.
     fn remove(&mut self, key: &Key, text: &Text) -> Turn
-        ensures turn { result ≡ (multimap_act (MultimapOp.Remove key.now text.now) self.old).turn }
-        ensures after { self.new ≡ (multimap_act (MultimapOp.Remove key.now text.now) self.old).state }
+        ensures turn { result ≡ (collections.multimap_act (MultimapOp.Remove key.now text.now) self.old).turn }
+        ensures after { self.new ≡ (collections.multimap_act (MultimapOp.Remove key.now text.now) self.old).state }
     {
         if !self.pairs.contains(key, text) {
-            return self.quiet(Reply::No);
+            return Turn::quiet(self.alloc, Reply::No);
         }
         self.pairs.remove(key, text);
-        self.quiet(Reply::Yes)
+        Turn::quiet(self.alloc, Reply::Yes)
     }
 
     /// Takes the pairs of a key out.
     fn remove_all(&mut self, key: &Key) -> Turn
-        ensures turn { result ≡ (multimap_act (MultimapOp.RemoveAll key.now) self.old).turn }
-        ensures after { self.new ≡ (multimap_act (MultimapOp.RemoveAll key.now) self.old).state }
+        ensures turn { result ≡ (collections.multimap_act (MultimapOp.RemoveAll key.now) self.old).turn }
+        ensures after { self.new ≡ (collections.multimap_act (MultimapOp.RemoveAll key.now) self.old).state }
     {
         let count = self.pairs.remove_all(key);
-        self.quiet(Reply::Number(count as i64))
+        Turn::quiet(self.alloc, Reply::Number(count as i64))
     }
 }
 

@@ -5,17 +5,15 @@ ghost use Rattle.std.specs.Map.{keys_of};
 ghost use Rattle.std.specs.BTreeMap.{is_at};
 ghost use Rattle.std.specs.BTreeSet.{insert_key};
 ghost use Rattle.std.specs.Set.{remove_key};
-ghost use Rattle.spec_book.specs.Dict.{bytes_cmp};
-ghost use Rattle.spec_book.specs.Collections.{pair_cmp, has_pair, pairs_of, without_pairs};
-ghost use Rattle.res_coll.specs.Pairs.{pairs_in};
+ghost use Rattle.spec_book.specs.Dict as dicts;
+ghost use Rattle.spec_book.specs.Collections as collections;
+ghost use Rattle.res_coll.specs.Pairs as pairs;
 
+use ax_types::limits::ROOM;
 use ax_types::{Duplicate, Key, NoMemory, Text};
 use std::alloc::Global;
 use std::collections::{BTreeMap, BTreeSet};
 use std::marker::Model;
-
-/// The most pairs of a multimap.
-pub const MAX_PAIRS: usize = 1024;
 
 /// At most 1,024 pairs of a key and a text, which contracts see as their list in ascending order of key and then of text.
 #[derive(Drop)]
@@ -27,17 +25,17 @@ pub struct Pairs {
 
 impl Model for Pairs {
     ghost use Rattle.std.specs.Prelude.{◌≡◌, ℕ, ◌≤◌, List as Items, length};
-    ghost use Rattle.res_coll.specs.declared.pairs.TheConstants.{MAX_PAIRS};
+    ghost use Rattle.ax_types.specs.declared.limits.TheConstants.{ROOM};
     ghost use Rattle.std.specs.List.Sorted.{IsStrictlySortedBy};
     ghost use Rattle.std.specs.Map.{keys_of};
-    ghost use Rattle.spec_book.specs.Dict.{bytes_cmp};
-    ghost use Rattle.res_coll.specs.Pairs.{pairs_in};
+    ghost use Rattle.spec_book.specs.Dict as dicts;
+    ghost use Rattle.res_coll.specs.Pairs as pairs;
 
     ghost Value = { Items (Items ℕ × Items ℕ) };
 
-    ghost view = { λ a. pairs_in a.texts.entries };
+    ghost view = { λ a. pairs.pairs_in a.texts.entries };
 
-    ghost invariant = { λ a. IsStrictlySortedBy bytes_cmp (keys_of a.texts.entries) × (a.len ≡ length (pairs_in a.texts.entries)) × (a.len ≤ MAX_PAIRS) };
+    ghost invariant = { λ a. IsStrictlySortedBy dicts.bytes_cmp (keys_of a.texts.entries) × (a.len ≡ length (pairs.pairs_in a.texts.entries)) × (a.len ≤ ROOM) };
 }
 
 impl Pairs {
@@ -55,14 +53,14 @@ impl Pairs {
     /// How many pairs there are.
     pub fn len(&self) -> usize
         ensures len { result ≡ length self.now }
-        ensures within { result ≤ MAX_PAIRS }
+        ensures within { result ≤ ROOM }
     {
         self.len
     }
 
     /// Whether the pair is in.
     pub fn contains(&self, key: &Key, text: &Text) -> bool
-        ensures { result ≡ has_pair self.now (key.now, text.now) }
+        ensures { result ≡ collections.has_pair self.now (key.now, text.now) }
     {
         match self.texts.get(key) {
             None => false,
@@ -72,8 +70,8 @@ impl Pairs {
 
     /// How many pairs the key has.
     pub fn count(&self, key: &Key) -> usize
-        ensures count { result ≡ length (pairs_of key.now self.now) }
-        ensures within { result ≤ MAX_PAIRS }
+        ensures count { result ≡ length (collections.pairs_of key.now self.now) }
+        ensures within { result ≤ ROOM }
     {
         match self.texts.get(key) {
             None => 0,
@@ -83,9 +81,9 @@ impl Pairs {
 
     /// Adds a pair that is not in. The pairs are unchanged after want of memory.
     pub fn add(&mut self, key: &Key, text: &Text) -> Result<(), NoMemory>
-        requires absent { has_pair self.old (key.now, text.now) ≡ false }
-        requires room { length self.old < MAX_PAIRS }
-        ensures ok { OnOk result (self.new ≡ insert_key pair_cmp self.old (key.now, text.now)) }
+        requires absent { collections.has_pair self.old (key.now, text.now) ≡ false }
+        requires room { length self.old < ROOM }
+        ensures ok { OnOk result (self.new ≡ insert_key collections.pair_cmp self.old (key.now, text.now)) }
         ensures err { OnErr result (self.new ≡ self.old) }
     {
         add_text(&mut self.texts, self.alloc, key, text.copy()?)?;
@@ -95,8 +93,8 @@ impl Pairs {
 
     /// Takes a pair out that is in.
     pub fn remove(&mut self, key: &Key, text: &Text)
-        requires { has_pair self.old (key.now, text.now) ≡ true }
-        ensures { self.new ≡ remove_key (is_at (pair_cmp (key.now, text.now))) self.old }
+        requires { collections.has_pair self.old (key.now, text.now) ≡ true }
+        ensures { self.new ≡ remove_key (is_at (collections.pair_cmp (key.now, text.now))) self.old }
     {
         remove_text(&mut self.texts, key, text);
         self.len -= 1;
@@ -104,9 +102,9 @@ impl Pairs {
 
     /// Takes the pairs of a key out. Answers how many they were.
     pub fn remove_all(&mut self, key: &Key) -> usize
-        ensures count { result ≡ length (pairs_of key.now self.old) }
-        ensures within { result ≤ MAX_PAIRS }
-        ensures after { self.new ≡ without_pairs key.now self.old }
+        ensures count { result ≡ length (collections.pairs_of key.now self.old) }
+        ensures within { result ≤ ROOM }
+        ensures after { self.new ≡ collections.without_pairs key.now self.old }
     {
         match self.texts.remove(key) {
             None => 0,
@@ -136,9 +134,9 @@ fn add_text(
     key: &Key,
     text: Text,
 ) -> Result<(), NoMemory>
-    ensures ok { OnOk result (pairs_in texts.new.entries ≡ insert_key pair_cmp (pairs_in texts.old.entries) (key.now, text)) }
-    ensures err { OnErr result (pairs_in texts.new.entries ≡ pairs_in texts.old.entries) }
-    ensures ascending { IsStrictlySortedBy bytes_cmp (keys_of texts.new.entries) }
+    ensures ok { OnOk result (pairs.pairs_in texts.new.entries ≡ insert_key collections.pair_cmp (pairs.pairs_in texts.old.entries) (key.now, text)) }
+    ensures err { OnErr result (pairs.pairs_in texts.new.entries ≡ pairs.pairs_in texts.old.entries) }
+    ensures ascending { IsStrictlySortedBy dicts.bytes_cmp (keys_of texts.new.entries) }
 {
     match texts.get_mut(key) {
         Some(held) => {
@@ -156,8 +154,8 @@ fn add_text(
 
 /// Takes a text out of those of a key, and the key where it was the last.
 fn remove_text(texts: &mut BTreeMap<Key, BTreeSet<Text>>, key: &Key, text: &Text)
-    ensures after { pairs_in texts.new.entries ≡ remove_key (is_at (pair_cmp (key.now, text.now))) (pairs_in texts.old.entries) }
-    ensures ascending { IsStrictlySortedBy bytes_cmp (keys_of texts.new.entries) }
+    ensures after { pairs.pairs_in texts.new.entries ≡ remove_key (is_at (collections.pair_cmp (key.now, text.now))) (pairs.pairs_in texts.old.entries) }
+    ensures ascending { IsStrictlySortedBy dicts.bytes_cmp (keys_of texts.new.entries) }
 {
     let Some(held) = texts.get_mut(key) else {
         return;

@@ -1,8 +1,8 @@
 ghost use Rattle.std.specs.Prelude.{◌≡◌, [], IfOk, OnOk, OnErr};
-ghost use Rattle.spec_book.specs.Resources.{replied};
-ghost use Rattle.spec_book.specs.Collections.{queue_act, queue_ask};
+ghost use Rattle.spec_book.specs.Resources as resources;
+ghost use Rattle.spec_book.specs.Collections as collections;
 
-use crate::MAX_TEXTS;
+use ax_types::limits::ROOM;
 use ax_types::{Duplicate, List, Name, NoMemory, QueueOp, QueueQuery, Reply, Text, Turn};
 use std::alloc::Global;
 use std::collections::VecDeque;
@@ -42,8 +42,8 @@ impl QueueBox {
         session: u64,
         op: &QueueOp,
     ) -> Result<Turn, NoMemory>
-        ensures ok { IfOk result (λ turn. turn ≡ (queue_act op.now self.old).turn) }
-        ensures after { OnOk result (self.new ≡ (queue_act op.now self.old).state) }
+        ensures ok { IfOk result (λ turn. turn ≡ (collections.queue_act op.now self.old).turn) }
+        ensures after { OnOk result (self.new ≡ (collections.queue_act op.now self.old).state) }
         ensures err { OnErr result (self.new ≡ self.old) }
     {
         match op {
@@ -54,7 +54,7 @@ impl QueueBox {
 
     /// What a query is answered.
     pub fn ask(&self, query: &QueueQuery) -> Result<Reply, NoMemory>
-        ensures { IfOk result (λ reply. reply ≡ queue_ask query.now self.now) }
+        ensures { IfOk result (λ reply. reply ≡ collections.queue_ask query.now self.now) }
     {
         match query {
             QueueQuery::Peek => match self.texts.front() {
@@ -67,43 +67,33 @@ impl QueueBox {
 
     /// The session ended: a queue knows no session, so nothing changes.
     pub fn end(&mut self, name: &Name, place: u64, session: u64) -> Result<Turn, NoMemory>
-        ensures ok { IfOk result (λ turn. turn ≡ (replied self.old Reply.Done).turn) }
+        ensures ok { IfOk result (λ turn. turn ≡ (resources.replied self.old Reply.Done).turn) }
         ensures unchanged { self.new ≡ self.old }
     {
-        Ok(self.quiet(Reply::Done))
-    }
-
-    /// A reply, and nobody told.
-    fn quiet(&self, reply: Reply) -> Turn
-        ensures { result ≡ (replied self.now reply).turn }
-    {
-        Turn {
-            reply,
-            told: List::new(self.alloc),
-        }
+        Ok(Turn::quiet(self.alloc, Reply::Done))
     }
 
     /// Puts a text last.
     fn offer(&mut self, text: &Text) -> Result<Turn, NoMemory>
-        ensures ok { IfOk result (λ turn. turn ≡ (queue_act (QueueOp.Offer text.now) self.old).turn) }
-        ensures after { OnOk result (self.new ≡ (queue_act (QueueOp.Offer text.now) self.old).state) }
+        ensures ok { IfOk result (λ turn. turn ≡ (collections.queue_act (QueueOp.Offer text.now) self.old).turn) }
+        ensures after { OnOk result (self.new ≡ (collections.queue_act (QueueOp.Offer text.now) self.old).state) }
         ensures err { OnErr result (self.new ≡ self.old) }
     {
-        if self.texts.len() >= MAX_TEXTS {
-            return Ok(self.quiet(Reply::Full));
+        if self.texts.len() >= ROOM {
+            return Ok(Turn::quiet(self.alloc, Reply::Full));
         }
         self.texts.push_back(text.copy()?)?;
-        Ok(self.quiet(Reply::Yes))
+        Ok(Turn::quiet(self.alloc, Reply::Yes))
     }
 
     /// Takes the first text out, if there is one.
     fn poll(&mut self) -> Turn
-        ensures turn { result ≡ (queue_act QueueOp.Poll self.old).turn }
-        ensures after { self.new ≡ (queue_act QueueOp.Poll self.old).state }
+        ensures turn { result ≡ (collections.queue_act QueueOp.Poll self.old).turn }
+        ensures after { self.new ≡ (collections.queue_act QueueOp.Poll self.old).state }
     {
         match self.texts.pop_front() {
-            None => self.quiet(Reply::Nothing),
-            Some(text) => self.quiet(Reply::Found(text)),
+            None => Turn::quiet(self.alloc, Reply::Nothing),
+            Some(text) => Turn::quiet(self.alloc, Reply::Found(text)),
         }
     }
 }

@@ -1,8 +1,8 @@
 ghost use Rattle.std.specs.Prelude.{◌≡◌, [], IfOk, OnOk, OnErr};
-ghost use Rattle.spec_book.specs.Resources.{replied};
-ghost use Rattle.spec_book.specs.Collections.{set_act, set_ask};
+ghost use Rattle.spec_book.specs.Resources as resources;
+ghost use Rattle.spec_book.specs.Collections as collections;
 
-use crate::{MAX_TEXTS, truth};
+use ax_types::limits::ROOM;
 use ax_types::{Duplicate, List, Name, NoMemory, Reply, SetOp, SetQuery, Text, Turn};
 use std::alloc::Global;
 use std::collections::BTreeSet;
@@ -42,8 +42,8 @@ impl SetBox {
         session: u64,
         op: &SetOp,
     ) -> Result<Turn, NoMemory>
-        ensures ok { IfOk result (λ turn. turn ≡ (set_act op.now self.old).turn) }
-        ensures after { OnOk result (self.new ≡ (set_act op.now self.old).state) }
+        ensures ok { IfOk result (λ turn. turn ≡ (collections.set_act op.now self.old).turn) }
+        ensures after { OnOk result (self.new ≡ (collections.set_act op.now self.old).state) }
         ensures err { OnErr result (self.new ≡ self.old) }
     {
         match op {
@@ -55,67 +55,57 @@ impl SetBox {
 
     /// What a query is answered.
     pub fn ask(&self, query: &SetQuery) -> Result<Reply, NoMemory>
-        ensures { IfOk result (λ reply. reply ≡ set_ask query.now self.now) }
+        ensures { IfOk result (λ reply. reply ≡ collections.set_ask query.now self.now) }
     {
         match query {
-            SetQuery::Contains { text } => Ok(truth(self.texts.contains(text))),
+            SetQuery::Contains { text } => Ok(Reply::from(self.texts.contains(text))),
             SetQuery::Size => Ok(Reply::Number(self.texts.len() as i64)),
         }
     }
 
     /// The session ended: a set knows no session, so nothing changes.
     pub fn end(&mut self, name: &Name, place: u64, session: u64) -> Result<Turn, NoMemory>
-        ensures ok { IfOk result (λ turn. turn ≡ (replied self.old Reply.Done).turn) }
+        ensures ok { IfOk result (λ turn. turn ≡ (resources.replied self.old Reply.Done).turn) }
         ensures unchanged { self.new ≡ self.old }
     {
-        Ok(self.quiet(Reply::Done))
-    }
-
-    /// A reply, and nobody told.
-    fn quiet(&self, reply: Reply) -> Turn
-        ensures { result ≡ (replied self.now reply).turn }
-    {
-        Turn {
-            reply,
-            told: List::new(self.alloc),
-        }
+        Ok(Turn::quiet(self.alloc, Reply::Done))
     }
 
     /// Adds a text that is not in.
     fn add(&mut self, text: &Text) -> Result<Turn, NoMemory>
-        ensures ok { IfOk result (λ turn. turn ≡ (set_act (SetOp.Add text.now) self.old).turn) }
-        ensures after { OnOk result (self.new ≡ (set_act (SetOp.Add text.now) self.old).state) }
+        ensures ok { IfOk result (λ turn. turn ≡ (collections.set_act (SetOp.Add text.now) self.old).turn) }
+        ensures after { OnOk result (self.new ≡ (collections.set_act (SetOp.Add text.now) self.old).state) }
         ensures err { OnErr result (self.new ≡ self.old) }
     {
         if self.texts.contains(text) {
-            return Ok(self.quiet(Reply::No));
+            return Ok(Turn::quiet(self.alloc, Reply::No));
         }
-        if self.texts.len() >= MAX_TEXTS {
-            return Ok(self.quiet(Reply::Full));
+        if self.texts.len() >= ROOM {
+            return Ok(Turn::quiet(self.alloc, Reply::Full));
         }
         self.texts.insert(text.copy()?)?;
-        Ok(self.quiet(Reply::Yes))
+        Ok(Turn::quiet(self.alloc, Reply::Yes))
     }
 
     /// Takes a text out that is in.
     fn remove(&mut self, text: &Text) -> Turn
-        ensures turn { result ≡ (set_act (SetOp.Remove text.now) self.old).turn }
-        ensures after { self.new ≡ (set_act (SetOp.Remove text.now) self.old).state }
+        ensures turn { result ≡ (collections.set_act (SetOp.Remove text.now) self.old).turn }
+        ensures after { self.new ≡ (collections.set_act (SetOp.Remove text.now) self.old).state }
     {
         if self.texts.remove(text) {
-            self.quiet(Reply::Yes)
+            Turn::quiet(self.alloc, Reply::Yes)
         } else {
-            self.quiet(Reply::No)
+            Turn::quiet(self.alloc, Reply::No)
         }
     }
 
     /// Takes all texts out.
     fn clear(&mut self) -> Turn
-        ensures turn { result ≡ (set_act SetOp.Clear self.old).turn }
-        ensures after { self.new ≡ (set_act SetOp.Clear self.old).state }
+        ensures turn { result ≡ (collections.set_act SetOp.Clear self.old).turn }
+        ensures after { self.new ≡ (collections.set_act SetOp.Clear self.old).state }
     {
         self.texts.clear();
-        self.quiet(Reply::Done)
+        Turn::quiet(self.alloc, Reply::Done)
     }
 }
 

@@ -1,7 +1,7 @@
 ghost use Rattle.std.specs.Prelude.{◌≡◌, [], IfOk, OnOk, OnErr};
-ghost use Rattle.spec_book.specs.Dict.{without_session};
-ghost use Rattle.spec_book.specs.Resources.{replied};
-ghost use Rattle.spec_book.specs.Collections.{topic_act, topic_ask};
+ghost use Rattle.spec_book.specs.Dict as dicts;
+ghost use Rattle.spec_book.specs.Resources as resources;
+ghost use Rattle.spec_book.specs.Collections as collections;
 
 use ax_types::{Duplicate, Event, List, Name, NoMemory, Reply, Text, TopicOp, TopicQuery, Turn};
 use res_sessions::Listeners;
@@ -42,8 +42,8 @@ impl TopicBox {
         session: u64,
         op: &TopicOp,
     ) -> Result<Turn, NoMemory>
-        ensures ok { IfOk result (λ turn. turn ≡ (topic_act name.now session op.now self.old).turn) }
-        ensures after { OnOk result (self.new ≡ (topic_act name.now session op.now self.old).state) }
+        ensures ok { IfOk result (λ turn. turn ≡ (collections.topic_act name.now session op.now self.old).turn) }
+        ensures after { OnOk result (self.new ≡ (collections.topic_act name.now session op.now self.old).state) }
         ensures err { OnErr result (self.new ≡ self.old) }
     {
         match op {
@@ -55,7 +55,7 @@ impl TopicBox {
 
     /// What a query is answered.
     pub fn ask(&self, query: &TopicQuery) -> Result<Reply, NoMemory>
-        ensures { IfOk result (λ reply. reply ≡ topic_ask query.now self.now) }
+        ensures { IfOk result (λ reply. reply ≡ collections.topic_ask query.now self.now) }
     {
         match query {
             TopicQuery::Subscribers => Ok(Reply::Number(self.subscribers.len() as i64)),
@@ -64,56 +64,46 @@ impl TopicBox {
 
     /// The session ended: it subscribes no more, and nobody is told. It takes no memory.
     pub fn end(&mut self, name: &Name, place: u64, session: u64) -> Result<Turn, NoMemory>
-        ensures ok { IfOk result (λ turn. turn ≡ (replied self.old Reply.Done).turn) }
-        ensures after { OnOk result (self.new ≡ without_session self.old session) }
+        ensures ok { IfOk result (λ turn. turn ≡ (resources.replied self.old Reply.Done).turn) }
+        ensures after { OnOk result (self.new ≡ dicts.without_session self.old session) }
         ensures err { OnErr result (self.new ≡ self.old) }
     {
         self.unlisten(session);
-        Ok(self.quiet(Reply::Done))
+        Ok(Turn::quiet(self.alloc, Reply::Done))
     }
 
     /// The session subscribes no more.
     pub fn unlisten(&mut self, session: u64)
-        ensures { self.new ≡ without_session self.old session }
+        ensures { self.new ≡ dicts.without_session self.old session }
     {
         self.subscribers.unlisten(session);
-    }
-
-    /// A reply, and nobody told.
-    fn quiet(&self, reply: Reply) -> Turn
-        ensures { result ≡ (replied self.now reply).turn }
-    {
-        Turn {
-            reply,
-            told: List::new(self.alloc),
-        }
     }
 
     /// The session subscribes from now on.
     fn subscribe(&mut self, session: u64) -> Result<Turn, NoMemory>
-        ensures ok { IfOk result (λ turn. turn ≡ (topic_act [] session TopicOp.Subscribe self.old).turn) }
-        ensures after { OnOk result (self.new ≡ (topic_act [] session TopicOp.Subscribe self.old).state) }
+        ensures ok { IfOk result (λ turn. turn ≡ (collections.topic_act [] session TopicOp.Subscribe self.old).turn) }
+        ensures after { OnOk result (self.new ≡ (collections.topic_act [] session TopicOp.Subscribe self.old).state) }
         ensures err { OnErr result (self.new ≡ self.old) }
     {
         let reply = self.subscribers.listen(session)?;
-        Ok(self.quiet(reply))
+        Ok(Turn::quiet(self.alloc, reply))
     }
 
     /// The session subscribes no more, if it did.
     fn unsubscribe(&mut self, session: u64) -> Turn
-        ensures turn { result ≡ (topic_act [] session TopicOp.Unsubscribe self.old).turn }
-        ensures after { self.new ≡ (topic_act [] session TopicOp.Unsubscribe self.old).state }
+        ensures turn { result ≡ (collections.topic_act [] session TopicOp.Unsubscribe self.old).turn }
+        ensures after { self.new ≡ (collections.topic_act [] session TopicOp.Unsubscribe self.old).state }
     {
         if !self.subscribers.contains(session) {
-            return self.quiet(Reply::No);
+            return Turn::quiet(self.alloc, Reply::No);
         }
         self.subscribers.unlisten(session);
-        self.quiet(Reply::Yes)
+        Turn::quiet(self.alloc, Reply::Yes)
     }
 
     /// Tells the text to each session that subscribes.
     fn publish(&mut self, name: &Name, text: &Text) -> Result<Turn, NoMemory>
-        ensures ok { IfOk result (λ turn. turn ≡ (topic_act name.now 0 (TopicOp.Publish text.now) self.old).turn) }
+        ensures ok { IfOk result (λ turn. turn ≡ (collections.topic_act name.now 0 (TopicOp.Publish text.now) self.old).turn) }
         ensures unchanged { self.new ≡ self.old }
     {
         let told = self.subscribers.tell(&Event::Message {

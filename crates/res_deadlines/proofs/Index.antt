@@ -6,7 +6,7 @@ use Rattle.std.specs.declared.cmp.Ordering.TheVariants.{Less, Equal, Greater}
 use Rattle.std.specs.Ordering.{nat_cmp, is_eq, ordering_then}
 use Rattle.std.specs.Option.{option_eq}
 use Rattle.std.specs.BTreeMap.{is_at}
-use Rattle.res_deadlines.specs.Deadlines.{is_end, has_deadline, is_deadline, SetsDeadline, ChangesDeadline}
+use Rattle.res_deadlines.specs.Deadlines as deadlines
 
 pub is_eq-ordering_then : (a b : Ordering) → is_eq (ordering_then a b) ≡ (is_eq a && is_eq b)
 is_eq-ordering_then Less b = refl
@@ -26,55 +26,55 @@ same_twice true x = refl
 same_twice false x = refl
 
 module _ {K : Type 0} (order : K → K → Ordering) where
-  is_deadline-by_parts : (end : Option ℕ) (at : K) (time : ℕ) (key : K) → is_deadline order end at time key ≡ (is_end end time && is_at (order at) key)
+  is_deadline-by_parts : (end : Option ℕ) (at : K) (time : ℕ) (key : K) → deadlines.is_deadline order end at time key ≡ (deadlines.is_end end time && is_at (order at) key)
   is_deadline-by_parts None at time key = refl
   is_deadline-by_parts (Some end) at time key = is_eq-ordering_then (nat_cmp end time) (order at key)
 
-  elsewhere : (end : Option ℕ) (at : K) (time : ℕ) (key : K) (has had : Bool) → is_at (order at) key ≡ false → cond (is_deadline order end at time key) has had ≡ had
-  elsewhere end at time key has had e = rw (is_deadline-by_parts end at time key, e) (cond_and_false (is_end end time) has had)
+  elsewhere : (end : Option ℕ) (at : K) (time : ℕ) (key : K) (has had : Bool) → is_at (order at) key ≡ false → cond (deadlines.is_deadline order end at time key) has had ≡ had
+  elsewhere end at time key has had e = rw (is_deadline-by_parts end at time key, e) (cond_and_false (deadlines.is_end end time) has had)
 
-  here : (end : Option ℕ) (at : K) (time : ℕ) (key : K) (has had : Bool) → is_at (order at) key ≡ true → cond (is_deadline order end at time key) has had ≡ cond (is_end end time) has had
-  here end at time key has had e = rw (is_deadline-by_parts end at time key, e) (cond_and_true (is_end end time) has had)
+  here : (end : Option ℕ) (at : K) (time : ℕ) (key : K) (has had : Bool) → is_at (order at) key ≡ true → cond (deadlines.is_deadline order end at time key) has had ≡ cond (deadlines.is_end end time) has had
+  here end at time key has had e = rw (is_deadline-by_parts end at time key, e) (cond_and_true (deadlines.is_end end time) has had)
 
   -- the index after one end was added or taken out, at a key that is another and at that key
-  pub SetsDeadline-elsewhere : (has : Bool) (old new : List (ℕ × K)) (end : Option ℕ) (at : K) → SetsDeadline order has old new end at
-      → (time : ℕ) (key : K) → is_at (order at) key ≡ false → has_deadline order new time key ≡ has_deadline order old time key
-  SetsDeadline-elsewhere has old new end at sets time key e = sets time key ∙ elsewhere end at time key has (has_deadline order old time key) e
+  pub SetsDeadline-elsewhere : (has : Bool) (old new : List (ℕ × K)) (end : Option ℕ) (at : K) → deadlines.SetsDeadline order has old new end at
+      → (time : ℕ) (key : K) → is_at (order at) key ≡ false → deadlines.has_deadline order new time key ≡ deadlines.has_deadline order old time key
+  SetsDeadline-elsewhere has old new end at sets time key e = sets time key ∙ elsewhere end at time key has (deadlines.has_deadline order old time key) e
 
-  pub SetsDeadline-at_key : (has : Bool) (old new : List (ℕ × K)) (end : Option ℕ) (at : K) → SetsDeadline order has old new end at
-      → (time : ℕ) (key : K) → is_at (order at) key ≡ true → has_deadline order new time key ≡ cond (is_end end time) has (has_deadline order old time key)
-  SetsDeadline-at_key has old new end at sets time key e = sets time key ∙ here end at time key has (has_deadline order old time key) e
+  pub SetsDeadline-at_key : (has : Bool) (old new : List (ℕ × K)) (end : Option ℕ) (at : K) → deadlines.SetsDeadline order has old new end at
+      → (time : ℕ) (key : K) → is_at (order at) key ≡ true → deadlines.has_deadline order new time key ≡ cond (deadlines.is_end end time) has (deadlines.has_deadline order old time key)
+  SetsDeadline-at_key has old new end at sets time key e = sets time key ∙ here end at time key has (deadlines.has_deadline order old time key) e
 
   -- the index after the end of a key changed, at a key that is another and at that key
-  pub ChangesDeadline-elsewhere : (old new : List (ℕ × K)) (at : K) (before after : Option ℕ) → ChangesDeadline order old new at before after
-      → (time : ℕ) (key : K) → is_at (order at) key ≡ false → has_deadline order new time key ≡ has_deadline order old time key
+  pub ChangesDeadline-elsewhere : (old new : List (ℕ × K)) (at : K) (before after : Option ℕ) → deadlines.ChangesDeadline order old new at before after
+      → (time : ℕ) (key : K) → is_at (order at) key ≡ false → deadlines.has_deadline order new time key ≡ deadlines.has_deadline order old time key
   ChangesDeadline-elsewhere old new at before after changes time key e =
-      let had : Bool = has_deadline order old time key in
+      let had : Bool = deadlines.has_deadline order old time key in
       changes time key
       ∙ (ap (λ (b : Bool). if option_eq nat_eq before after then had else b)
-      (elsewhere before at time key false (cond (is_deadline order after at time key) true had) e ∙ elsewhere after at time key true had e)
+      (elsewhere before at time key false (cond (deadlines.is_deadline order after at time key) true had) e ∙ elsewhere after at time key true had e)
       ∙ same_twice (option_eq nat_eq before after) had)
 
-  pub ChangesDeadline-at_key : (old new : List (ℕ × K)) (at : K) (before after : Option ℕ) → ChangesDeadline order old new at before after
+  pub ChangesDeadline-at_key : (old new : List (ℕ × K)) (at : K) (before after : Option ℕ) → deadlines.ChangesDeadline order old new at before after
       → (time : ℕ) (key : K) → is_at (order at) key ≡ true
-      → has_deadline order new time key
-      ≡ (if option_eq nat_eq before after then has_deadline order old time key
-      else cond (is_end before time) false (cond (is_end after time) true (has_deadline order old time key)))
+      → deadlines.has_deadline order new time key
+      ≡ (if option_eq nat_eq before after then deadlines.has_deadline order old time key
+      else cond (deadlines.is_end before time) false (cond (deadlines.is_end after time) true (deadlines.has_deadline order old time key)))
   ChangesDeadline-at_key old new at before after changes time key e =
-      let had : Bool = has_deadline order old time key in
+      let had : Bool = deadlines.has_deadline order old time key in
       changes time key
       ∙ ap (λ (b : Bool). if option_eq nat_eq before after then had else b)
-      (here before at time key false (cond (is_deadline order after at time key) true had) e
-      ∙ ap (λ (b : Bool). cond (is_end before time) false b) (here after at time key true had e))
+      (here before at time key false (cond (deadlines.is_deadline order after at time key) true had) e
+      ∙ ap (λ (b : Bool). cond (deadlines.is_end before time) false b) (here after at time key true had e))
 
   -- an end that was added is one that came where there was none
-  pub ChangesDeadline-added : (old new : List (ℕ × K)) (at : K) (after : Option ℕ) → SetsDeadline order true old new after at
-      → ChangesDeadline order old new at None after
+  pub ChangesDeadline-added : (old new : List (ℕ × K)) (at : K) (after : Option ℕ) → deadlines.SetsDeadline order true old new after at
+      → deadlines.ChangesDeadline order old new at None after
   ChangesDeadline-added old new at None sets = λ time key. sets time key
   ChangesDeadline-added old new at (Some after) sets = λ time key. sets time key
 
   -- the end that came after is added, and then the one before is taken out
   pub ChangesDeadline-other : (old added new : List (ℕ × K)) (at : K) (before after : Option ℕ) → option_eq nat_eq before after ≡ false
-      → SetsDeadline order true old added after at → SetsDeadline order false added new before at → ChangesDeadline order old new at before after
+      → deadlines.SetsDeadline order true old added after at → deadlines.SetsDeadline order false added new before at → deadlines.ChangesDeadline order old new at before after
   ChangesDeadline-other old added new at before after apart adds drops = λ time key.
-      rw apart (drops time key ∙ ap (λ (b : Bool). cond (is_deadline order before at time key) false b) (adds time key))
+      rw apart (drops time key ∙ ap (λ (b : Bool). cond (deadlines.is_deadline order before at time key) false b) (adds time key))

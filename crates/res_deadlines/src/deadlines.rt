@@ -2,7 +2,7 @@ ghost use Rattle.std.specs.Prelude.{◌≡◌, ℕ, [], true, false, ◌≤◌, 
 ghost use Rattle.std.specs.List.{list_any, All, AllZip};
 ghost use Rattle.std.specs.List.Sorted.{IsStrictlySortedBy};
 ghost use Rattle.std.specs.BTreeMap.{is_at};
-ghost use Rattle.res_deadlines.specs.Deadlines.{ChangesDeadline, SetsDeadline, any_passed, has_passed, first_time};
+ghost use Rattle.res_deadlines.specs.Deadlines as deadlines;
 
 use ax_types::{Duplicate, NoMemory};
 use std::alloc::{AllocError, Global};
@@ -39,7 +39,7 @@ impl<K: Ord + Duplicate> Deadlines<K> {
 
     /// Adds an end, where there is one, with a key. The deadlines are unchanged after want of memory.
     pub fn add(&mut self, end: Option<u128>, key: &K) -> Result<(), NoMemory>
-        ensures ok { OnOk result (SetsDeadline K.cmp true self.old self.new end key.now) }
+        ensures ok { OnOk result (deadlines.SetsDeadline K.cmp true self.old self.new end key.now) }
         ensures err { OnErr result (self.new ≡ self.old) }
     {
         if let Some(end) = end {
@@ -50,7 +50,7 @@ impl<K: Ord + Duplicate> Deadlines<K> {
 
     /// Takes an end, where there is one, with a key out.
     pub fn forget(&mut self, end: Option<u128>, key: K)
-        ensures { SetsDeadline K.cmp false self.old self.new end key }
+        ensures { deadlines.SetsDeadline K.cmp false self.old self.new end key }
     {
         if let Some(end) = end {
             self.pairs.remove(&(end, key));
@@ -65,7 +65,7 @@ impl<K: Ord + Duplicate> Deadlines<K> {
         before: Option<u128>,
         after: Option<u128>,
     ) -> Result<(), NoMemory>
-        ensures ok { OnOk result (ChangesDeadline K.cmp self.old self.new key.now before after) }
+        ensures ok { OnOk result (deadlines.ChangesDeadline K.cmp self.old self.new key.now before after) }
         ensures err { OnErr result (self.new ≡ self.old) }
     {
         if before != after {
@@ -85,7 +85,7 @@ impl<K: Ord + Duplicate> Deadlines<K> {
 
     /// The earliest time.
     pub fn first(&self) -> Option<u128>
-        ensures time { result ≡ first_time self.now }
+        ensures time { result ≡ deadlines.first_time self.now }
         ensures least { IfSome result (λ time. All (λ d. time ≤ d.0) self.now) }
     {
         match self.pairs.first() {
@@ -96,7 +96,7 @@ impl<K: Ord + Duplicate> Deadlines<K> {
 
     /// Whether a time is at most this one. Only the earliest is looked at.
     pub fn any_passed(&self, time: u64) -> bool
-        ensures { result ≡ any_passed time self.now }
+        ensures { result ≡ deadlines.any_passed time self.now }
     {
         match self.first() {
             Some(end) => end <= u128::from(time),
@@ -106,7 +106,7 @@ impl<K: Ord + Duplicate> Deadlines<K> {
 
     /// The keys whose times are at most this one. No time after the first later one is looked at.
     pub fn passed(&self, time: u64) -> Result<BTreeSet<K>, NoMemory>
-        ensures keys { IfOk result (λ keys. (key : K) → list_any (is_at (K.cmp key)) keys.keys ≡ has_passed K.cmp time self.now key) }
+        ensures keys { IfOk result (λ keys. (key : K) → list_any (is_at (K.cmp key)) keys.keys ≡ deadlines.has_passed K.cmp time self.now key) }
         ensures ascending { IfOk result (λ keys. IsStrictlySortedBy K.cmp keys.keys) }
     {
         let mut keys = BTreeSet::new(self.alloc);

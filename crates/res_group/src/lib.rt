@@ -2,18 +2,16 @@
 #![tactic(auto)]
 
 ghost use Rattle.std.specs.Prelude.{◌≡◌, ℕ, false, true, ◌∷◌, [], ◌++◌, option_to_list, IfOk, OnOk, OnErr, slice_get};
-ghost use Rattle.spec_book.specs.Dict.{has_session, without_session};
-ghost use Rattle.spec_book.specs.Resources.{new_group, replied, tell};
-ghost use Rattle.spec_book.specs.Owners.{leads, leader_of, tell_elected, members_changed, group_act, group_ask, group_unlistened, group_end};
+ghost use Rattle.spec_book.specs.Dict as dicts;
+ghost use Rattle.spec_book.specs.Resources as resources;
+ghost use Rattle.spec_book.specs.Owners as owners;
 
+use ax_types::limits::ROOM;
 use ax_types::{Duplicate, Event, GroupOp, GroupQuery, List, Name, NoMemory, Reply, Turn};
 use res_sessions::{Listeners, SessionQueue};
 use std::alloc::Global;
 use std::marker::Model;
 use std::mem;
-
-/// The most members of one group.
-pub const MAX_MEMBERS: usize = 1024;
 
 /// The member that leads a group, with its term: the place of the act that made it leader.
 #[derive(Clone, Copy)]
@@ -23,9 +21,9 @@ struct Lead {
 }
 
 impl Model for Lead {
-    ghost use Rattle.spec_book.specs.Resources.{GroupLeader};
+    ghost use Rattle.spec_book.specs.Resources as resources;
 
-    ghost Value = { GroupLeader };
+    ghost Value = { resources.GroupLeader };
 
     ghost view = { λ a. record { session = a.session; term = a.term } };
 
@@ -43,9 +41,7 @@ pub struct GroupBox {
 }
 
 impl Model for GroupBox {
-    ghost use Rattle.spec_book.specs.Resources.{GroupState};
-
-    ghost Value = { GroupState };
+    ghost Value = { resources.GroupState };
 
     ghost view = { λ a. record { members = a.members; leader = a.leader; listeners = a.listeners } };
 }
@@ -53,7 +49,7 @@ impl Model for GroupBox {
 impl GroupBox {
     /// A group with no member, to which nobody listens. It takes no memory.
     pub fn new(alloc: Global) -> Self
-        ensures { result ≡ new_group }
+        ensures { result ≡ resources.new_group }
     {
         GroupBox {
             alloc,
@@ -71,8 +67,8 @@ impl GroupBox {
         session: u64,
         op: &GroupOp,
     ) -> Result<Turn, NoMemory>
-        ensures ok { IfOk result (λ turn. turn ≡ (group_act name.now place session op.now self.old).turn) }
-        ensures after { OnOk result (self.new ≡ (group_act name.now place session op.now self.old).state) }
+        ensures ok { IfOk result (λ turn. turn ≡ (owners.group_act name.now place session op.now self.old).turn) }
+        ensures after { OnOk result (self.new ≡ (owners.group_act name.now place session op.now self.old).state) }
         ensures err { OnErr result (self.new ≡ self.old) }
     {
         match op {
@@ -84,7 +80,7 @@ impl GroupBox {
 
     /// What a query is answered.
     pub fn ask(&self, query: &GroupQuery) -> Result<Reply, NoMemory>
-        ensures { IfOk result (λ reply. reply ≡ group_ask query.now self.now) }
+        ensures { IfOk result (λ reply. reply ≡ owners.group_ask query.now self.now) }
     {
         match query {
             GroupQuery::Members => Ok(Reply::Members(self.members.to_list()?)),
@@ -95,8 +91,8 @@ impl GroupBox {
     /// The session ended: it listens no more, and then leaves, as by `leave`, where it is a member. The group is unchanged
     /// after want of memory.
     pub fn end(&mut self, name: &Name, place: u64, session: u64) -> Result<Turn, NoMemory>
-        ensures ok { IfOk result (λ turn. turn ≡ (group_end name.now place session (group_unlistened session self.old)).turn) }
-        ensures after { OnOk result (self.new ≡ (group_end name.now place session (group_unlistened session self.old)).state) }
+        ensures ok { IfOk result (λ turn. turn ≡ (owners.group_end name.now place session (owners.group_unlistened session self.old)).turn) }
+        ensures after { OnOk result (self.new ≡ (owners.group_end name.now place session (owners.group_unlistened session self.old)).state) }
         ensures err { OnErr result (self.new ≡ self.old) }
     {
         let mut listeners = self.listeners.copy()?;
@@ -113,7 +109,7 @@ impl GroupBox {
 
     /// The session listens no more.
     pub fn unlisten(&mut self, session: u64)
-        ensures { self.new ≡ group_unlistened session self.old }
+        ensures { self.new ≡ owners.group_unlistened session self.old }
     {
         self.listeners.unlisten(session);
     }
@@ -121,29 +117,19 @@ impl GroupBox {
     /// The session ended, and listens no more: it leaves, as by `leave`, where it is a member. The group is unchanged after
     /// want of memory.
     pub fn depart(&mut self, name: &Name, place: u64, session: u64) -> Result<Turn, NoMemory>
-        ensures ok { IfOk result (λ turn. turn ≡ (group_end name.now place session self.old).turn) }
-        ensures after { OnOk result (self.new ≡ (group_end name.now place session self.old).state) }
+        ensures ok { IfOk result (λ turn. turn ≡ (owners.group_end name.now place session self.old).turn) }
+        ensures after { OnOk result (self.new ≡ (owners.group_end name.now place session self.old).state) }
         ensures err { OnErr result (self.new ≡ self.old) }
     {
         if !self.members.contains(session) {
-            return Ok(self.quiet(Reply::Done));
+            return Ok(Turn::quiet(self.alloc, Reply::Done));
         }
         self.remove(name, place, session)
     }
 
-    /// A reply, and nobody told.
-    fn quiet(&self, reply: Reply) -> Turn
-        ensures { result ≡ (replied self.now reply).turn }
-    {
-        Turn {
-            reply,
-            told: List::new(self.alloc),
-        }
-    }
-
     /// Whether the session leads the group.
     fn leads(&self, session: u64) -> bool
-        ensures { result ≡ leads self.now.leader session }
+        ensures { result ≡ owners.leads_group self.now.leader session }
     {
         match &self.leader {
             None => false,
@@ -160,8 +146,8 @@ impl GroupBox {
         change: &Event,
         first: Option<u64>,
     ) -> Result<List<(u64, Event)>, NoMemory>
-        ensures { IfOk result (λ told. told ≡ tell self.now.listeners change.now
-            ++ tell_elected name.now place (option_to_list first) self.now.leader self.now.listeners) }
+        ensures { IfOk result (λ told. told ≡ resources.tell self.now.listeners change.now
+            ++ owners.tell_elected name.now place (option_to_list first) self.now.leader self.now.listeners) }
     {
         let mut told = self.listeners.tell(change)?;
         match first {
@@ -178,7 +164,7 @@ impl GroupBox {
 
     /// The first member leads, from this place on where it did not before.
     fn elect(&mut self, place: u64)
-        ensures { self.new ≡ record self.old { leader = leader_of place self.old.members self.old.leader } }
+        ensures { self.new ≡ record self.old { leader = owners.leader_of place self.old.members self.old.leader } }
     {
         match self.members.first() {
             None => self.leader = None,
@@ -195,25 +181,25 @@ impl GroupBox {
 
     /// The session is the last member, where it is none yet and there is room.
     fn join(&mut self, name: &Name, place: u64, session: u64) -> Result<Turn, NoMemory>
-        ensures ok { IfOk result (λ turn. turn ≡ (group_act name.now place session GroupOp.Join self.old).turn) }
-        ensures after { OnOk result (self.new ≡ (group_act name.now place session GroupOp.Join self.old).state) }
+        ensures ok { IfOk result (λ turn. turn ≡ (owners.group_act name.now place session GroupOp.Join self.old).turn) }
+        ensures after { OnOk result (self.new ≡ (owners.group_act name.now place session GroupOp.Join self.old).state) }
         ensures err { OnErr result (self.new ≡ self.old) }
     {
         if self.members.contains(session) {
-            return Ok(self.quiet(Reply::Already));
+            return Ok(Turn::quiet(self.alloc, Reply::Already));
         }
-        if self.members.len() >= MAX_MEMBERS {
-            return Ok(self.quiet(Reply::Full));
+        if self.members.len() >= ROOM {
+            return Ok(Turn::quiet(self.alloc, Reply::Full));
         }
         self.add(name, place, session)
     }
 
     /// The session is the last member, and the listeners are told.
     fn add(&mut self, name: &Name, place: u64, session: u64) -> Result<Turn, NoMemory>
-        requires { has_session self.old.members session ≡ false }
-        ensures ok { IfOk result (λ turn. turn ≡ (members_changed name.now place (self.old.members ++ session ∷ [])
+        requires { dicts.has_session self.old.members session ≡ false }
+        ensures ok { IfOk result (λ turn. turn ≡ (owners.members_changed name.now place (self.old.members ++ session ∷ [])
             (Event.Joined name.now session) self.old).turn) }
-        ensures after { OnOk result (self.new ≡ (members_changed name.now place (self.old.members ++ session ∷ [])
+        ensures after { OnOk result (self.new ≡ (owners.members_changed name.now place (self.old.members ++ session ∷ [])
             (Event.Joined name.now session) self.old).state) }
         ensures err { OnErr result (self.new ≡ self.old) }
     {
@@ -233,21 +219,21 @@ impl GroupBox {
 
     /// The session is no member any more, where it is one.
     fn leave(&mut self, name: &Name, place: u64, session: u64) -> Result<Turn, NoMemory>
-        ensures ok { IfOk result (λ turn. turn ≡ (group_act name.now place session GroupOp.Leave self.old).turn) }
-        ensures after { OnOk result (self.new ≡ (group_act name.now place session GroupOp.Leave self.old).state) }
+        ensures ok { IfOk result (λ turn. turn ≡ (owners.group_act name.now place session GroupOp.Leave self.old).turn) }
+        ensures after { OnOk result (self.new ≡ (owners.group_act name.now place session GroupOp.Leave self.old).state) }
         ensures err { OnErr result (self.new ≡ self.old) }
     {
         if !self.members.contains(session) {
-            return Ok(self.quiet(Reply::NotMember));
+            return Ok(Turn::quiet(self.alloc, Reply::NotMember));
         }
         self.remove(name, place, session)
     }
 
     /// The session is no member any more, and the listeners are told.
     fn remove(&mut self, name: &Name, place: u64, session: u64) -> Result<Turn, NoMemory>
-        ensures ok { IfOk result (λ turn. turn ≡ (members_changed name.now place (without_session self.old.members session)
+        ensures ok { IfOk result (λ turn. turn ≡ (owners.members_changed name.now place (dicts.without_session self.old.members session)
             (Event.Left name.now session) self.old).turn) }
-        ensures after { OnOk result (self.new ≡ (members_changed name.now place (without_session self.old.members session)
+        ensures after { OnOk result (self.new ≡ (owners.members_changed name.now place (dicts.without_session self.old.members session)
             (Event.Left name.now session) self.old).state) }
         ensures err { OnErr result (self.new ≡ self.old) }
     {
@@ -267,12 +253,12 @@ impl GroupBox {
 
     /// The session listens from now on.
     fn listen(&mut self, session: u64) -> Result<Turn, NoMemory>
-        ensures ok { IfOk result (λ turn. turn ≡ (group_act [] 0 session GroupOp.Listen self.old).turn) }
-        ensures after { OnOk result (self.new ≡ (group_act [] 0 session GroupOp.Listen self.old).state) }
+        ensures ok { IfOk result (λ turn. turn ≡ (owners.group_act [] 0 session GroupOp.Listen self.old).turn) }
+        ensures after { OnOk result (self.new ≡ (owners.group_act [] 0 session GroupOp.Listen self.old).state) }
         ensures err { OnErr result (self.new ≡ self.old) }
     {
         let reply = self.listeners.listen(session)?;
-        Ok(self.quiet(reply))
+        Ok(Turn::quiet(self.alloc, reply))
     }
 }
 
@@ -300,7 +286,7 @@ fn elected(name: &Name, session: u64, place: u64) -> Result<Event, NoMemory>
 
 /// The leader with its term as a reply, or that there is none.
 fn leader_reply(leader: &Option<Lead>) -> Reply
-    ensures { result ≡ group_ask GroupQuery.Leader (record { members = []; leader = leader.now; listeners = [] }) }
+    ensures { result ≡ owners.group_ask GroupQuery.Leader (record { members = []; leader = leader.now; listeners = [] }) }
 {
     match leader {
         None => Reply::Nothing,
@@ -310,6 +296,3 @@ fn leader_reply(leader: &Option<Lead>) -> Reply
         },
     }
 }
-
-#[cfg(test)]
-mod tests;

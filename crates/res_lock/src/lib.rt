@@ -2,18 +2,16 @@
 #![tactic(auto)]
 
 ghost use Rattle.std.specs.Prelude.{◌≡◌, ℕ, false, ◌∷◌, [], IfOk, OnOk, OnErr, IsSome, IsTrue};
-ghost use Rattle.spec_book.specs.Dict.{has_session, without_session};
-ghost use Rattle.spec_book.specs.Resources.{new_lock, replied};
-ghost use Rattle.spec_book.specs.Owners.{is_holder, has_part, granted, tell_granted, lock_freed, lock_taken, lock_tried, lock_act, lock_ask, lock_end};
-ghost use Rattle.res_lock.specs.HolderApart.{HolderApart};
+ghost use Rattle.spec_book.specs.Dict as dicts;
+ghost use Rattle.spec_book.specs.Resources as resources;
+ghost use Rattle.spec_book.specs.Owners as owners;
+ghost use Rattle.res_lock.specs.HolderApart as holder_apart;
 
+use ax_types::limits::ROOM;
 use ax_types::{Duplicate, Event, List, LockOp, LockQuery, Name, NoMemory, Reply, Turn};
 use res_sessions::SessionQueue;
 use std::alloc::Global;
 use std::marker::Model;
-
-/// The most sessions that wait for one lock.
-pub const MAX_WAITING: usize = 1024;
 
 /// The session that holds a lock, with its fencing number: the place of the act that granted it.
 #[derive(Clone, Copy)]
@@ -23,9 +21,9 @@ struct Grant {
 }
 
 impl Model for Grant {
-    ghost use Rattle.spec_book.specs.Resources.{Holder};
+    ghost use Rattle.spec_book.specs.Resources as resources;
 
-    ghost Value = { Holder };
+    ghost Value = { resources.Holder };
 
     ghost view = { λ a. record { session = a.session; fence = a.fence } };
 
@@ -42,20 +40,20 @@ pub struct LockBox {
 }
 
 impl Model for LockBox {
-    ghost use Rattle.spec_book.specs.Resources.{LockState};
-    ghost use Rattle.res_lock.specs.HolderApart.{HolderApart};
+    ghost use Rattle.res_lock.specs.HolderApart as holder_apart;
+    ghost use Rattle.spec_book.specs.Resources as resources;
 
-    ghost Value = { LockState };
+    ghost Value = { resources.LockState };
 
     ghost view = { λ a. record { holder = a.holder; waiting = a.waiting } };
 
-    ghost invariant = { λ a. HolderApart a.holder a.waiting };
+    ghost invariant = { λ a. holder_apart.HolderApart a.holder a.waiting };
 }
 
 impl LockBox {
     /// A lock that is free, for which nobody waits. It takes no memory.
     pub fn new(alloc: Global) -> Self
-        ensures { result ≡ new_lock }
+        ensures { result ≡ resources.new_lock }
     {
         LockBox {
             alloc,
@@ -72,8 +70,8 @@ impl LockBox {
         session: u64,
         op: &LockOp,
     ) -> Result<Turn, NoMemory>
-        ensures ok { IfOk result (λ turn. turn ≡ (lock_act name.now place session op.now self.old).turn) }
-        ensures after { OnOk result (self.new ≡ (lock_act name.now place session op.now self.old).state) }
+        ensures ok { IfOk result (λ turn. turn ≡ (owners.lock_act name.now place session op.now self.old).turn) }
+        ensures after { OnOk result (self.new ≡ (owners.lock_act name.now place session op.now self.old).state) }
         ensures err { OnErr result (self.new ≡ self.old) }
     {
         match op {
@@ -86,8 +84,8 @@ impl LockBox {
 
     /// What a query is answered.
     pub fn ask(&self, query: &LockQuery) -> Result<Reply, NoMemory>
-        ensures ok { IfOk result (λ reply. reply ≡ lock_ask query.now self.now) }
-        ensures holder_apart { HolderApart self.now.holder self.now.waiting }
+        ensures ok { IfOk result (λ reply. reply ≡ owners.lock_ask query.now self.now) }
+        ensures holder_apart { holder_apart.HolderApart self.now.holder self.now.waiting }
     {
         match query {
             LockQuery::Holder => Ok(holder_reply(&self.holder)),
@@ -98,8 +96,8 @@ impl LockBox {
     /// The session ended: it waits no more, and where it holds the lock, the lock is freed and granted to the first that
     /// waits. The lock is unchanged after want of memory.
     pub fn end(&mut self, name: &Name, place: u64, session: u64) -> Result<Turn, NoMemory>
-        ensures ok { IfOk result (λ turn. turn ≡ (lock_end name.now place session self.old).turn) }
-        ensures after { OnOk result (self.new ≡ (lock_end name.now place session self.old).state) }
+        ensures ok { IfOk result (λ turn. turn ≡ (owners.lock_end name.now place session self.old).turn) }
+        ensures after { OnOk result (self.new ≡ (owners.lock_end name.now place session self.old).state) }
         ensures err { OnErr result (self.new ≡ self.old) }
     {
         if self.is_holder(session) {
@@ -107,22 +105,12 @@ impl LockBox {
             return self.free(name, place);
         }
         self.waiting.remove(session);
-        Ok(self.quiet(Reply::Done))
-    }
-
-    /// A reply, and nobody told.
-    fn quiet(&self, reply: Reply) -> Turn
-        ensures { result ≡ (replied self.now reply).turn }
-    {
-        Turn {
-            reply,
-            told: List::new(self.alloc),
-        }
+        Ok(Turn::quiet(self.alloc, Reply::Done))
     }
 
     /// Whether the session holds the lock.
     fn is_holder(&self, session: u64) -> bool
-        ensures { result ≡ is_holder self.now.holder session }
+        ensures { result ≡ owners.is_holder self.now.holder session }
     {
         match &self.holder {
             None => false,
@@ -132,7 +120,7 @@ impl LockBox {
 
     /// Whether the session holds the lock or waits for it.
     fn has_part(&self, session: u64) -> bool
-        ensures { result ≡ has_part self.now session }
+        ensures { result ≡ owners.has_part self.now session }
     {
         self.is_holder(session) || self.waiting.contains(session)
     }
@@ -144,7 +132,7 @@ impl LockBox {
         place: u64,
         session: u64,
     ) -> Result<List<(u64, Event)>, NoMemory>
-        ensures { IfOk result (λ told. told ≡ tell_granted name.now place session) }
+        ensures { IfOk result (λ told. told ≡ owners.tell_granted name.now place session) }
     {
         let mut told = List::with_capacity(self.alloc, 1)?;
         told.push((
@@ -159,12 +147,12 @@ impl LockBox {
 
     /// The lock is the session's where it is free; else the session waits last.
     fn lock(&mut self, name: &Name, place: u64, session: u64) -> Result<Turn, NoMemory>
-        ensures ok { IfOk result (λ turn. turn ≡ (lock_act name.now place session LockOp.Lock self.old).turn) }
-        ensures after { OnOk result (self.new ≡ (lock_act name.now place session LockOp.Lock self.old).state) }
+        ensures ok { IfOk result (λ turn. turn ≡ (owners.lock_act name.now place session LockOp.Lock self.old).turn) }
+        ensures after { OnOk result (self.new ≡ (owners.lock_act name.now place session LockOp.Lock self.old).state) }
         ensures err { OnErr result (self.new ≡ self.old) }
     {
         if self.has_part(session) {
-            return Ok(self.quiet(Reply::Already));
+            return Ok(Turn::quiet(self.alloc, Reply::Already));
         }
         if self.holder.is_some() {
             return self.wait(session);
@@ -182,53 +170,53 @@ impl LockBox {
 
     /// The session waits last, where there is room.
     fn wait(&mut self, session: u64) -> Result<Turn, NoMemory>
-        requires apart { has_part self.old session ≡ false }
+        requires apart { owners.has_part self.old session ≡ false }
         requires held { IsSome self.old.holder }
-        ensures ok { IfOk result (λ turn. turn ≡ (lock_taken [] 0 session self.old.holder self.old).turn) }
-        ensures after { OnOk result (self.new ≡ (lock_taken [] 0 session self.old.holder self.old).state) }
+        ensures ok { IfOk result (λ turn. turn ≡ (owners.lock_taken [] 0 session self.old.holder self.old).turn) }
+        ensures after { OnOk result (self.new ≡ (owners.lock_taken [] 0 session self.old.holder self.old).state) }
         ensures err { OnErr result (self.new ≡ self.old) }
     {
-        if self.waiting.len() >= MAX_WAITING {
-            return Ok(self.quiet(Reply::Full));
+        if self.waiting.len() >= ROOM {
+            return Ok(Turn::quiet(self.alloc, Reply::Full));
         }
         self.waiting.push(session)?;
-        Ok(self.quiet(Reply::Done))
+        Ok(Turn::quiet(self.alloc, Reply::Done))
     }
 
     /// The lock is the session's where it is free. Nobody is told.
     fn try_lock(&mut self, place: u64, session: u64) -> Turn
-        ensures turn { result ≡ (lock_act [] place session LockOp.TryLock self.old).turn }
-        ensures after { self.new ≡ (lock_act [] place session LockOp.TryLock self.old).state }
+        ensures turn { result ≡ (owners.lock_act [] place session LockOp.TryLock self.old).turn }
+        ensures after { self.new ≡ (owners.lock_act [] place session LockOp.TryLock self.old).state }
     {
         if self.has_part(session) {
-            return self.quiet(Reply::Already);
+            return Turn::quiet(self.alloc, Reply::Already);
         }
         if self.holder.is_some() {
-            return self.quiet(Reply::Busy);
+            return Turn::quiet(self.alloc, Reply::Busy);
         }
         self.holder = Some(Grant {
             session,
             fence: place,
         });
-        self.quiet(Reply::Fence(place))
+        Turn::quiet(self.alloc, Reply::Fence(place))
     }
 
     /// The holder lets the lock go.
     fn unlock(&mut self, name: &Name, place: u64, session: u64) -> Result<Turn, NoMemory>
-        ensures ok { IfOk result (λ turn. turn ≡ (lock_act name.now place session LockOp.Unlock self.old).turn) }
-        ensures after { OnOk result (self.new ≡ (lock_act name.now place session LockOp.Unlock self.old).state) }
+        ensures ok { IfOk result (λ turn. turn ≡ (owners.lock_act name.now place session LockOp.Unlock self.old).turn) }
+        ensures after { OnOk result (self.new ≡ (owners.lock_act name.now place session LockOp.Unlock self.old).state) }
         ensures err { OnErr result (self.new ≡ self.old) }
     {
         if !self.is_holder(session) {
-            return Ok(self.quiet(Reply::NotHolder));
+            return Ok(Turn::quiet(self.alloc, Reply::NotHolder));
         }
         self.free(name, place)
     }
 
     /// The lock is granted to the first that waits, or is free where nobody does.
     fn free(&mut self, name: &Name, place: u64) -> Result<Turn, NoMemory>
-        ensures ok { IfOk result (λ turn. turn ≡ (lock_freed name.now place Reply.Done self.old.waiting).turn) }
-        ensures after { OnOk result (self.new ≡ (lock_freed name.now place Reply.Done self.old.waiting).state) }
+        ensures ok { IfOk result (λ turn. turn ≡ (owners.lock_freed name.now place Reply.Done self.old.waiting).turn) }
+        ensures after { OnOk result (self.new ≡ (owners.lock_freed name.now place Reply.Done self.old.waiting).state) }
         ensures err { OnErr result (self.new ≡ self.old) }
     {
         let told = match self.waiting.first() {
@@ -250,13 +238,13 @@ impl LockBox {
 
     /// The session waits no more.
     fn cancel(&mut self, session: u64) -> Turn
-        ensures turn { result ≡ (lock_act [] 0 session LockOp.Cancel self.old).turn }
-        ensures after { self.new ≡ (lock_act [] 0 session LockOp.Cancel self.old).state }
+        ensures turn { result ≡ (owners.lock_act [] 0 session LockOp.Cancel self.old).turn }
+        ensures after { self.new ≡ (owners.lock_act [] 0 session LockOp.Cancel self.old).state }
     {
         if self.waiting.remove(session) {
-            self.quiet(Reply::Yes)
+            Turn::quiet(self.alloc, Reply::Yes)
         } else {
-            self.quiet(Reply::No)
+            Turn::quiet(self.alloc, Reply::No)
         }
     }
 }
@@ -273,7 +261,7 @@ impl Duplicate for LockBox {
 
 /// The holder with its fencing number as a reply, or that there is none.
 fn holder_reply(holder: &Option<Grant>) -> Reply
-    ensures { result ≡ lock_ask LockQuery.Holder (record { holder = holder.now; waiting = [] }) }
+    ensures { result ≡ owners.lock_ask LockQuery.Holder (record { holder = holder.now; waiting = [] }) }
 {
     match holder {
         None => Reply::Nothing,
@@ -283,6 +271,3 @@ fn holder_reply(holder: &Option<Grant>) -> Reply
         },
     }
 }
-
-#[cfg(test)]
-mod tests;

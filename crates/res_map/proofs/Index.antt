@@ -7,16 +7,16 @@ use Rattle.std.specs.BTreeMap.{is_at}
 use Rattle.std.proofs.lemmas.Map.Lookups.{exact_unsigned}
 use Rattle.std.proofs.lemmas.Map.Views.{tells_apart, exact_unsigned_eq}
 use Rattle.std.proofs.lemmas.Bool.{eq-eqb}
-use Rattle.spec_book.specs.Dict.{bytes_cmp, found}
-use Rattle.spec_book.specs.Resources.{MapItem}
-use Rattle.res_deadlines.specs.Deadlines.{is_end, has_deadline, SetsDeadline, ChangesDeadline}
+use Rattle.spec_book.specs.Dict as dicts
+use Rattle.spec_book.specs.Resources as resources
+use Rattle.res_deadlines.specs.Deadlines as deadlines
 use Rattle.res_deadlines.proofs.Index.{SetsDeadline-elsewhere, SetsDeadline-at_key, ChangesDeadline-elsewhere, ChangesDeadline-at_key}
-use Rattle.res_map.specs.Lives.{item_end, IsIndexed}
+use Rattle.res_map.specs.Lives as lives
 use Rattle.res_map.proofs.Keys.{same_key}
 
 -- what is found at the key itself
-found_here : {X : Type 0} (es : List (List ℕ × X)) (key q : List ℕ) → is_at (bytes_cmp key) q ≡ true → found es q ≡ found es key
-found_here {X} es key q e = ap (λ (v : List ℕ). found es v) (sym (same_key key q e))
+found_here : {X : Type 0} (es : List (List ℕ × X)) (key q : List ℕ) → is_at (dicts.bytes_cmp key) q ≡ true → dicts.found es q ≡ dicts.found es key
+found_here {X} es key q e = ap (λ (v : List ℕ). dicts.found es v) (sym (same_key key q e))
 
 -- two ends at one time are one end
 same_end : (a b time : ℕ) → is_at (nat_cmp a) time ≡ true → is_at (nat_cmp b) time ≡ true → a ≡ b
@@ -24,8 +24,8 @@ same_end a b time e f = tells_apart exact_unsigned a time e ∙ sym (tells_apart
 
 -- the end that was is out, and the end that is is in, where the index had the end that was
 changed_end : (before after : Option ℕ) (time : ℕ)
-    → (if option_eq nat_eq before after then is_end before time else cond (is_end before time) false (cond (is_end after time) true (is_end before time)))
-    ≡ is_end after time
+    → (if option_eq nat_eq before after then deadlines.is_end before time else cond (deadlines.is_end before time) false (cond (deadlines.is_end after time) true (deadlines.is_end before time)))
+    ≡ deadlines.is_end after time
 changed_end None None time = refl
 changed_end None (Some b) time = by_truth (is_at (nat_cmp b) time)
   where
@@ -52,82 +52,82 @@ changed_end (Some a) (Some b) time = by_same (nat_eq a b) refl
     by_same false e = apart (is_at (nat_cmp a) time) (is_at (nat_cmp b) time) refl refl e
 
 -- after what stands at a key changed, and its end in the index with it
-pub IsIndexed-changed : (es fs : List (List ℕ × MapItem)) (ds left : List (ℕ × List ℕ)) (key : List ℕ) (was is : Option MapItem)
-    → IsIndexed es ds
-    → found es key ≡ was
-    → ((q : List ℕ) → found fs q ≡ cond (is_at (bytes_cmp key) q) is (found es q))
-    → ChangesDeadline bytes_cmp ds left key (item_end was) (item_end is)
-    → IsIndexed fs left
-IsIndexed-changed es fs ds left key was is in_step there finds changes = λ time q. at_key time q (is_at (bytes_cmp key) q) refl
+pub IsIndexed-changed : (es fs : List (List ℕ × resources.MapItem)) (ds left : List (ℕ × List ℕ)) (key : List ℕ) (was is : Option resources.MapItem)
+    → lives.IsDeadlineIndex es ds
+    → dicts.found es key ≡ was
+    → ((q : List ℕ) → dicts.found fs q ≡ cond (is_at (dicts.bytes_cmp key) q) is (dicts.found es q))
+    → deadlines.ChangesDeadline dicts.bytes_cmp ds left key (lives.item_end was) (lives.item_end is)
+    → lives.IsDeadlineIndex fs left
+IsIndexed-changed es fs ds left key was is in_step there finds changes = λ time q. at_key time q (is_at (dicts.bytes_cmp key) q) refl
   where
     before : Option ℕ
-    before = item_end was
+    before = lives.item_end was
 
     after : Option ℕ
-    after = item_end is
+    after = lives.item_end is
 
-    at_key : (time : ℕ) (q : List ℕ) (b : Bool) → is_at (bytes_cmp key) q ≡ b → has_deadline bytes_cmp left time q ≡ is_end (item_end (found fs q)) time
+    at_key : (time : ℕ) (q : List ℕ) (b : Bool) → is_at (dicts.bytes_cmp key) q ≡ b → deadlines.has_deadline dicts.bytes_cmp left time q ≡ deadlines.is_end (lives.item_end (dicts.found fs q)) time
     at_key time q false e =
-        let f : found fs q ≡ found es q = finds q ∙ ap (λ (v : Bool). cond v is (found es q)) e in
-        ChangesDeadline-elsewhere bytes_cmp ds left key before after changes time q e
-        ∙ (in_step time q ∙ ap (λ (v : Option MapItem). is_end (item_end v) time) (sym f))
+        let f : dicts.found fs q ≡ dicts.found es q = finds q ∙ ap (λ (v : Bool). cond v is (dicts.found es q)) e in
+        ChangesDeadline-elsewhere dicts.bytes_cmp ds left key before after changes time q e
+        ∙ (in_step time q ∙ ap (λ (v : Option resources.MapItem). deadlines.is_end (lives.item_end v) time) (sym f))
     at_key time q true e =
-        let f : found fs q ≡ is = finds q ∙ ap (λ (v : Bool). cond v is (found es q)) e in
-        let had : has_deadline bytes_cmp ds time q ≡ is_end before time =
-        in_step time q ∙ ap (λ (v : Option MapItem). is_end (item_end v) time) (found_here es key q e ∙ there) in
-        ChangesDeadline-at_key bytes_cmp ds left key before after changes time q e
-        ∙ (ap (λ (b : Bool). if option_eq nat_eq before after then b else cond (is_end before time) false (cond (is_end after time) true b)) had
-        ∙ (changed_end before after time ∙ ap (λ (v : Option MapItem). is_end (item_end v) time) (sym f)))
+        let f : dicts.found fs q ≡ is = finds q ∙ ap (λ (v : Bool). cond v is (dicts.found es q)) e in
+        let had : deadlines.has_deadline dicts.bytes_cmp ds time q ≡ deadlines.is_end before time =
+        in_step time q ∙ ap (λ (v : Option resources.MapItem). deadlines.is_end (lives.item_end v) time) (found_here es key q e ∙ there) in
+        ChangesDeadline-at_key dicts.bytes_cmp ds left key before after changes time q e
+        ∙ (ap (λ (b : Bool). if option_eq nat_eq before after then b else cond (deadlines.is_end before time) false (cond (deadlines.is_end after time) true b)) had
+        ∙ (changed_end before after time ∙ ap (λ (v : Option resources.MapItem). deadlines.is_end (lives.item_end v) time) (sym f)))
 
 gone_truth : (b : Bool) → cond b false b ≡ false
 gone_truth true = refl
 gone_truth false = refl
 
 -- after the entry of a key was taken out, and its end with it
-pub IsIndexed-removed : (es fs : List (List ℕ × MapItem)) (ds left : List (ℕ × List ℕ)) (key : List ℕ) (was : Option MapItem)
-    → IsIndexed es ds
-    → found es key ≡ was
-    → ((q : List ℕ) → found fs q ≡ cond (is_at (bytes_cmp key) q) None (found es q))
-    → SetsDeadline bytes_cmp false ds left (item_end was) key
-    → IsIndexed fs left
-IsIndexed-removed es fs ds left key was in_step there finds drops = λ time q. at_key time q (is_at (bytes_cmp key) q) refl
+pub IsIndexed-removed : (es fs : List (List ℕ × resources.MapItem)) (ds left : List (ℕ × List ℕ)) (key : List ℕ) (was : Option resources.MapItem)
+    → lives.IsDeadlineIndex es ds
+    → dicts.found es key ≡ was
+    → ((q : List ℕ) → dicts.found fs q ≡ cond (is_at (dicts.bytes_cmp key) q) None (dicts.found es q))
+    → deadlines.SetsDeadline dicts.bytes_cmp false ds left (lives.item_end was) key
+    → lives.IsDeadlineIndex fs left
+IsIndexed-removed es fs ds left key was in_step there finds drops = λ time q. at_key time q (is_at (dicts.bytes_cmp key) q) refl
   where
     before : Option ℕ
-    before = item_end was
+    before = lives.item_end was
 
-    at_key : (time : ℕ) (q : List ℕ) (b : Bool) → is_at (bytes_cmp key) q ≡ b → has_deadline bytes_cmp left time q ≡ is_end (item_end (found fs q)) time
+    at_key : (time : ℕ) (q : List ℕ) (b : Bool) → is_at (dicts.bytes_cmp key) q ≡ b → deadlines.has_deadline dicts.bytes_cmp left time q ≡ deadlines.is_end (lives.item_end (dicts.found fs q)) time
     at_key time q false e =
-        let f : found fs q ≡ found es q = finds q ∙ ap (λ (v : Bool). cond v None (found es q)) e in
-        SetsDeadline-elsewhere bytes_cmp false ds left before key drops time q e
-        ∙ (in_step time q ∙ ap (λ (v : Option MapItem). is_end (item_end v) time) (sym f))
+        let f : dicts.found fs q ≡ dicts.found es q = finds q ∙ ap (λ (v : Bool). cond v None (dicts.found es q)) e in
+        SetsDeadline-elsewhere dicts.bytes_cmp false ds left before key drops time q e
+        ∙ (in_step time q ∙ ap (λ (v : Option resources.MapItem). deadlines.is_end (lives.item_end v) time) (sym f))
     at_key time q true e =
-        let f : found fs q ≡ None = finds q ∙ ap (λ (v : Bool). cond v None (found es q)) e in
-        let had : has_deadline bytes_cmp ds time q ≡ is_end before time =
-        in_step time q ∙ ap (λ (v : Option MapItem). is_end (item_end v) time) (found_here es key q e ∙ there) in
-        SetsDeadline-at_key bytes_cmp false ds left before key drops time q e
-        ∙ (ap (λ (v : Bool). cond (is_end before time) false v) had
-        ∙ (gone_truth (is_end before time) ∙ ap (λ (v : Option MapItem). is_end (item_end v) time) (sym f)))
+        let f : dicts.found fs q ≡ None = finds q ∙ ap (λ (v : Bool). cond v None (dicts.found es q)) e in
+        let had : deadlines.has_deadline dicts.bytes_cmp ds time q ≡ deadlines.is_end before time =
+        in_step time q ∙ ap (λ (v : Option resources.MapItem). deadlines.is_end (lives.item_end v) time) (found_here es key q e ∙ there) in
+        SetsDeadline-at_key dicts.bytes_cmp false ds left before key drops time q e
+        ∙ (ap (λ (v : Bool). cond (deadlines.is_end before time) false v) had
+        ∙ (gone_truth (deadlines.is_end before time) ∙ ap (λ (v : Option resources.MapItem). deadlines.is_end (lives.item_end v) time) (sym f)))
 
 -- after an end was added at a key that has no entry, and was taken out again
-pub IsIndexed-again : (es : List (List ℕ × MapItem)) (ds added left : List (ℕ × List ℕ)) (key : List ℕ) (after : Option ℕ)
-    → IsIndexed es ds
-    → found es key ≡ None
-    → SetsDeadline bytes_cmp true ds added after key
-    → SetsDeadline bytes_cmp false added left after key
-    → IsIndexed es left
-IsIndexed-again es ds added left key after in_step absent adds drops = λ time q. at_key time q (is_at (bytes_cmp key) q) refl
+pub IsIndexed-again : (es : List (List ℕ × resources.MapItem)) (ds added left : List (ℕ × List ℕ)) (key : List ℕ) (after : Option ℕ)
+    → lives.IsDeadlineIndex es ds
+    → dicts.found es key ≡ None
+    → deadlines.SetsDeadline dicts.bytes_cmp true ds added after key
+    → deadlines.SetsDeadline dicts.bytes_cmp false added left after key
+    → lives.IsDeadlineIndex es left
+IsIndexed-again es ds added left key after in_step absent adds drops = λ time q. at_key time q (is_at (dicts.bytes_cmp key) q) refl
   where
     truths : (b c : Bool) → c ≡ false → cond b false (cond b true c) ≡ c
     truths true c e = sym e
     truths false c e = refl
 
-    at_key : (time : ℕ) (q : List ℕ) (b : Bool) → is_at (bytes_cmp key) q ≡ b → has_deadline bytes_cmp left time q ≡ is_end (item_end (found es q)) time
+    at_key : (time : ℕ) (q : List ℕ) (b : Bool) → is_at (dicts.bytes_cmp key) q ≡ b → deadlines.has_deadline dicts.bytes_cmp left time q ≡ deadlines.is_end (lives.item_end (dicts.found es q)) time
     at_key time q false e =
-        SetsDeadline-elsewhere bytes_cmp false added left after key drops time q e
-        ∙ (SetsDeadline-elsewhere bytes_cmp true ds added after key adds time q e ∙ in_step time q)
+        SetsDeadline-elsewhere dicts.bytes_cmp false added left after key drops time q e
+        ∙ (SetsDeadline-elsewhere dicts.bytes_cmp true ds added after key adds time q e ∙ in_step time q)
     at_key time q true e =
-        let s : has_deadline bytes_cmp ds time q ≡ false =
-        in_step time q ∙ ap (λ (v : Option MapItem). is_end (item_end v) time) (found_here es key q e ∙ absent) in
-        SetsDeadline-at_key bytes_cmp false added left after key drops time q e
-        ∙ (ap (λ (v : Bool). cond (is_end after time) false v) (SetsDeadline-at_key bytes_cmp true ds added after key adds time q e)
-        ∙ (truths (is_end after time) (has_deadline bytes_cmp ds time q) s ∙ in_step time q))
+        let s : deadlines.has_deadline dicts.bytes_cmp ds time q ≡ false =
+        in_step time q ∙ ap (λ (v : Option resources.MapItem). deadlines.is_end (lives.item_end v) time) (found_here es key q e ∙ absent) in
+        SetsDeadline-at_key dicts.bytes_cmp false added left after key drops time q e
+        ∙ (ap (λ (v : Bool). cond (deadlines.is_end after time) false v) (SetsDeadline-at_key dicts.bytes_cmp true ds added after key adds time q e)
+        ∙ (truths (deadlines.is_end after time) (deadlines.has_deadline dicts.bytes_cmp ds time q) s ∙ in_step time q))

@@ -3,11 +3,12 @@ ghost use Rattle.std.specs.Prelude.{◌≡◌, ◌<◌, ◌^◌, List as Items, 
 ghost use Rattle.std.specs.Option.{option_copied};
 ghost use Rattle.std.specs.List.Sorted.{IsStrictlySortedBy};
 ghost use Rattle.std.specs.Map.{keys_of};
-ghost use Rattle.spec_book.specs.Dict.{bytes_cmp, found, with_entry, without_entry};
-ghost use Rattle.res_map.specs.Lives.{first_end, ended_keys, without_keys};
-ghost use Rattle.res_map.specs.Put.{put_at, entries_put};
+ghost use Rattle.spec_book.specs.Dict as dicts;
+ghost use Rattle.res_map.specs.Lives as lives;
+ghost use Rattle.res_map.specs.Put as puts;
 
 use crate::items::MapItem;
+use ax_types::limits::ROOM;
 use ax_types::{Duplicate, Key, NoMemory};
 use res_deadlines::Deadlines;
 use std::alloc::Global;
@@ -15,9 +16,6 @@ use std::collections::btree_map::Keys;
 use std::collections::{BTreeMap, BTreeSet};
 use std::marker::Model;
 use std::mem;
-
-/// The most entries of a map.
-pub const MAX_ENTRIES: usize = 1024;
 
 /// What comes of putting an item at a key.
 #[derive(Drop)]
@@ -39,17 +37,17 @@ pub struct Entries {
 
 impl Model for Entries {
     ghost use Rattle.std.specs.Prelude.{ℕ, List as Items};
-    ghost use Rattle.spec_book.specs.Resources.{MapItem as ItemValue};
+    ghost use Rattle.spec_book.specs.Resources as resources;
     ghost use Rattle.std.specs.List.Sorted.{IsStrictlySortedBy};
     ghost use Rattle.std.specs.Map.{keys_of};
-    ghost use Rattle.spec_book.specs.Dict.{bytes_cmp};
-    ghost use Rattle.res_map.specs.Lives.{IsIndexed};
+    ghost use Rattle.spec_book.specs.Dict as dicts;
+    ghost use Rattle.res_map.specs.Lives as lives;
 
-    ghost Value = { Items (Items ℕ × ItemValue) };
+    ghost Value = { Items (Items ℕ × resources.MapItem) };
 
     ghost view = { λ a. a.items.entries };
 
-    ghost invariant = { λ a. IsStrictlySortedBy bytes_cmp (keys_of a.items.entries) × IsIndexed a.items.entries a.deadlines };
+    ghost invariant = { λ a. IsStrictlySortedBy dicts.bytes_cmp (keys_of a.items.entries) × lives.IsDeadlineIndex a.items.entries a.deadlines };
 }
 
 impl Entries {
@@ -67,29 +65,29 @@ impl Entries {
     pub fn len(&self) -> usize
         ensures len { result ≡ length self.now }
         ensures small { result < 2 ^ 63 }
-        ensures ascending { IsStrictlySortedBy bytes_cmp (keys_of self.now) }
+        ensures ascending { IsStrictlySortedBy dicts.bytes_cmp (keys_of self.now) }
     {
         self.items.len()
     }
 
     /// What stands at a key.
     pub fn get(&self, key: &Key) -> Option<&MapItem>
-        ensures { option_copied result ≡ found self.now key.now }
+        ensures { option_copied result ≡ dicts.found self.now key.now }
     {
         self.items.get(key)
     }
 
     /// Whether a key has an entry.
     pub fn contains(&self, key: &Key) -> bool
-        ensures { result ≡ is_some (found self.now key.now) }
+        ensures { result ≡ is_some (dicts.found self.now key.now) }
     {
         self.items.contains_key(key)
     }
 
     /// Puts an item at a key, but no new key where there is no room. The entries are unchanged after want of memory.
     pub fn put(&mut self, key: &Key, item: MapItem) -> Result<Put, NoMemory>
-        ensures put { IfOk result (λ put. put ≡ put_at self.old (found self.old key.now)) }
-        ensures ok { OnOk result (self.new ≡ entries_put key.now item self.old (found self.old key.now)) }
+        ensures put { IfOk result (λ put. put ≡ puts.put_at self.old (dicts.found self.old key.now)) }
+        ensures ok { OnOk result (self.new ≡ puts.entries_put key.now item self.old (dicts.found self.old key.now)) }
         ensures err { OnErr result (self.new ≡ self.old) }
     {
         match self.items.get_mut(key) {
@@ -98,7 +96,7 @@ impl Entries {
                 Ok(Put::Replaced(mem::replace(there, item)))
             }
             None => {
-                if self.items.len() >= MAX_ENTRIES {
+                if self.items.len() >= ROOM {
                     return Ok(Put::Full);
                 }
                 self.add(key, item)?;
@@ -109,8 +107,8 @@ impl Entries {
 
     /// Puts an item at a key that has none. The entries are unchanged after want of memory.
     fn add(&mut self, key: &Key, item: MapItem) -> Result<(), NoMemory>
-        requires { found self.old key.now ≡ None }
-        ensures ok { OnOk result (self.new ≡ with_entry self.old key.now item) }
+        requires { dicts.found self.old key.now ≡ None }
+        ensures ok { OnOk result (self.new ≡ dicts.with_entry self.old key.now item) }
         ensures err { OnErr result (self.new ≡ self.old) }
     {
         let own = key.copy()?;
@@ -128,8 +126,8 @@ impl Entries {
 
     /// Takes the entry of a key out. Answers what stood there.
     pub fn remove(&mut self, key: Key) -> Option<MapItem>
-        ensures old { result ≡ found self.old key }
-        ensures after { self.new ≡ without_entry self.old key }
+        ensures old { result ≡ dicts.found self.old key }
+        ensures after { self.new ≡ dicts.without_entry self.old key }
     {
         let item = self.items.remove(&key)?;
         self.deadlines.forget(item.end(), key);
@@ -138,7 +136,7 @@ impl Entries {
 
     /// Takes the entries of the keys out.
     pub fn remove_all(&mut self, keys: BTreeSet<Key>)
-        ensures { self.new ≡ without_keys self.old keys.keys }
+        ensures { self.new ≡ lives.without_keys self.old keys.keys }
     {
         for key in keys {
             self.remove(key);
@@ -155,15 +153,15 @@ impl Entries {
 
     /// The keys of the entries whose life ends at or before a log time.
     pub fn ended(&self, time: u64) -> Result<BTreeSet<Key>, NoMemory>
-        ensures keys { IfOk result (λ keys. keys.keys ≡ ended_keys time self.now) }
-        ensures ascending { IsStrictlySortedBy bytes_cmp (keys_of self.now) }
+        ensures keys { IfOk result (λ keys. keys.keys ≡ lives.ended_keys time self.now) }
+        ensures ascending { IsStrictlySortedBy dicts.bytes_cmp (keys_of self.now) }
     {
         self.deadlines.passed(time)
     }
 
     /// The first log time at which the life of an entry ends.
     pub fn first_end(&self) -> Option<u128>
-        ensures { result ≡ first_end self.now }
+        ensures { result ≡ lives.first_end self.now }
     {
         self.deadlines.first()
     }

@@ -1,21 +1,21 @@
 ghost use Rattle.std.specs.Prelude.{◌≡◌, ◌+◌};
-ghost use Rattle.res_map.specs.Lives.{end_of};
+ghost use Rattle.res_map.specs.Lives as lives;
 
 use ax_types::{Duplicate, Life, NoMemory, Text};
 use std::alloc::AllocError;
 use std::marker::Model;
 
 /// The life of an entry, with the log time at which it was set.
-#[derive(Clone, Copy, Debug)]
+#[derive(Clone, Copy)]
 pub struct Span {
     set_at: u64,
     length: Life,
 }
 
 impl Model for Span {
-    ghost use Rattle.spec_book.specs.Resources.{Span as SpanValue};
+    ghost use Rattle.spec_book.specs.Resources as resources;
 
-    ghost Value = { SpanValue };
+    ghost Value = { resources.Span };
 
     ghost view = { λ a. record { set_at = a.set_at; length = a.length } };
 
@@ -39,16 +39,16 @@ impl Span {
 }
 
 /// What stands at a key: a text, and its life where it has one.
-#[derive(Debug, Drop)]
+#[derive(Drop)]
 pub struct MapItem {
     text: Text,
     life: Option<Span>,
 }
 
 impl Model for MapItem {
-    ghost use Rattle.spec_book.specs.Resources.{MapItem as ItemValue};
+    ghost use Rattle.spec_book.specs.Resources as resources;
 
-    ghost Value = { ItemValue };
+    ghost Value = { resources.MapItem };
 
     ghost view = { λ a. record { text = a.text; life = a.life } };
 }
@@ -77,7 +77,7 @@ impl MapItem {
 
     /// The log time at which its life ends, where it has one.
     pub fn end(&self) -> Option<u128>
-        ensures { result ≡ end_of self.now.life }
+        ensures { result ≡ lives.life_end self.now.life }
     {
         match self.life {
             Some(life) => Some(life.end()),

@@ -4,8 +4,5 @@
 mod entries;
 mod items;
 mod map;
-#[cfg(test)]
-mod tests;
 
-pub use entries::MAX_ENTRIES;
 pub use map::MapBox;

@@ -1,10 +1,10 @@
 ghost use Rattle.std.specs.Prelude.{◌≡◌, ℕ, ◌<◌, List as Items, ◌++◌, IfSome, IfOk, OnOk, OnErr, []};
 ghost use Rattle.std.specs.Map.{keys_of};
-ghost use Rattle.spec_book.specs.Dict.{found};
-ghost use Rattle.spec_book.specs.Resources.{new_map, replied, tell};
-ghost use Rattle.spec_book.specs.MapTurn.{map_act, map_ask, map_unlistened, map_pass, map_passed, put_item, put_absent, replace_item, remove_item, lasting};
-ghost use Rattle.res_map.specs.Lives.{first_end};
-ghost use Rattle.res_map.specs.Told.{tell_keys};
+ghost use Rattle.spec_book.specs.Dict as dicts;
+ghost use Rattle.spec_book.specs.Resources as resources;
+ghost use Rattle.spec_book.specs.MapTurn as map_turns;
+ghost use Rattle.res_map.specs.Lives as lives;
+ghost use Rattle.res_map.specs.Told as map_told;
 
 use crate::entries::{Entries, Put};
 use crate::items::{MapItem, Span};
@@ -23,9 +23,9 @@ pub struct MapBox {
 }
 
 impl Model for MapBox {
-    ghost use Rattle.spec_book.specs.Resources.{MapState};
+    ghost use Rattle.spec_book.specs.Resources as resources;
 
-    ghost Value = { MapState };
+    ghost Value = { resources.MapState };
 
     ghost view = { λ a. record { entries = a.entries; listeners = a.listeners } };
 }
@@ -33,7 +33,7 @@ impl Model for MapBox {
 impl MapBox {
     /// A map with no entry, to which nobody listens. It takes no memory.
     pub fn new(alloc: Global) -> Self
-        ensures { result ≡ new_map }
+        ensures { result ≡ resources.new_map }
     {
         MapBox {
             alloc,
@@ -51,8 +51,8 @@ impl MapBox {
         session: u64,
         op: &MapOp,
     ) -> Result<Turn, NoMemory>
-        ensures ok { IfOk result (λ turn. turn ≡ (map_act name.now time session op.now self.old).turn) }
-        ensures after { OnOk result (self.new ≡ (map_act name.now time session op.now self.old).state) }
+        ensures ok { IfOk result (λ turn. turn ≡ (map_turns.map_act name.now time session op.now self.old).turn) }
+        ensures after { OnOk result (self.new ≡ (map_turns.map_act name.now time session op.now self.old).state) }
         ensures err { OnErr result (self.new ≡ self.old) }
     {
         match op {
@@ -71,8 +71,8 @@ impl MapBox {
     /// The entries whose life ends at or before a log time go. Answers what the listeners are told of it, in ascending
     /// order of key. The map is unchanged after want of memory.
     pub fn pass(&mut self, name: &Name, time: u64) -> Result<List<(u64, Event)>, NoMemory>
-        ensures ok { IfOk result (λ told. told ≡ map_passed name.now time self.old) }
-        ensures after { OnOk result (self.new ≡ map_pass time self.old) }
+        ensures ok { IfOk result (λ told. told ≡ map_turns.map_passed name.now time self.old) }
+        ensures after { OnOk result (self.new ≡ map_turns.map_pass time self.old) }
         ensures err { OnErr result (self.new ≡ self.old) }
     {
         let ended = self.entries.ended(time)?;
@@ -84,16 +84,16 @@ impl MapBox {
     /// The first log time at which the life of an entry ends. At an earlier time `pass` changes nothing and tells
     /// nobody. No entry is walked over for it.
     pub fn next_deadline(&self) -> Option<u128>
-        ensures first { result ≡ first_end self.now.entries }
-        ensures unchanged_before { (time : ℕ) → IfSome result (λ end. time < end) → map_pass time self.now ≡ self.now }
-        ensures untold_before { (name : Items ℕ) (time : ℕ) → IfSome result (λ end. time < end) → map_passed name time self.now ≡ [] }
+        ensures first { result ≡ lives.first_end self.now.entries }
+        ensures unchanged_before { (time : ℕ) → IfSome result (λ end. time < end) → map_turns.map_pass time self.now ≡ self.now }
+        ensures untold_before { (name : Items ℕ) (time : ℕ) → IfSome result (λ end. time < end) → map_turns.map_passed name time self.now ≡ [] }
     {
         self.entries.first_end()
     }
 
     /// What a query is answered.
     pub fn ask(&self, query: &MapQuery) -> Result<Reply, NoMemory>
-        ensures { IfOk result (λ reply. reply ≡ map_ask query.now self.now) }
+        ensures { IfOk result (λ reply. reply ≡ map_turns.map_ask query.now self.now) }
     {
         match query {
             MapQuery::Get { key } => match self.entries.get(key) {
@@ -110,29 +110,19 @@ impl MapBox {
 
     /// The session ended: it listens no more, and nobody is told. It takes no memory.
     pub fn end(&mut self, name: &Name, place: u64, session: u64) -> Result<Turn, NoMemory>
-        ensures ok { IfOk result (λ turn. turn ≡ (replied self.old Reply.Done).turn) }
-        ensures after { OnOk result (self.new ≡ map_unlistened session self.old) }
+        ensures ok { IfOk result (λ turn. turn ≡ (resources.replied self.old Reply.Done).turn) }
+        ensures after { OnOk result (self.new ≡ map_turns.map_unlistened session self.old) }
         ensures err { OnErr result (self.new ≡ self.old) }
     {
         self.unlisten(session);
-        Ok(self.quiet(Reply::Done))
+        Ok(Turn::quiet(self.alloc, Reply::Done))
     }
 
     /// The session listens no more.
     pub fn unlisten(&mut self, session: u64)
-        ensures { self.new ≡ map_unlistened session self.old }
+        ensures { self.new ≡ map_turns.map_unlistened session self.old }
     {
         self.listeners.unlisten(session);
-    }
-
-    /// A reply, and nobody told.
-    fn quiet(&self, reply: Reply) -> Turn
-        ensures { result ≡ (replied self.now reply).turn }
-    {
-        Turn {
-            reply,
-            told: List::new(self.alloc),
-        }
     }
 
     /// Puts a text at a key, with a life or none.
@@ -143,14 +133,14 @@ impl MapBox {
         text: &Text,
         life: Option<Span>,
     ) -> Result<Turn, NoMemory>
-        ensures ok { IfOk result (λ turn. turn ≡ (put_item name.now key.now (record { text = text.now; life = life }) (found self.old.entries key.now) self.old).turn) }
-        ensures after { OnOk result (self.new ≡ (put_item name.now key.now (record { text = text.now; life = life }) (found self.old.entries key.now) self.old).state) }
+        ensures ok { IfOk result (λ turn. turn ≡ (map_turns.put_item name.now key.now (record { text = text.now; life = life }) (dicts.found self.old.entries key.now) self.old).turn) }
+        ensures after { OnOk result (self.new ≡ (map_turns.put_item name.now key.now (record { text = text.now; life = life }) (dicts.found self.old.entries key.now) self.old).state) }
         ensures err { OnErr result (self.new ≡ self.old) }
     {
         let item = MapItem::new(text.copy()?, life);
         let told = self.tell_changed(name, key, item.text())?;
         match self.entries.put(key, item)? {
-            Put::Full => Ok(self.quiet(Reply::Full)),
+            Put::Full => Ok(Turn::quiet(self.alloc, Reply::Full)),
             Put::New => Ok(Turn {
                 reply: Reply::Nothing,
                 told,
@@ -164,46 +154,46 @@ impl MapBox {
 
     /// Puts a text at a key that has none.
     fn put_if_absent(&mut self, name: &Name, key: &Key, text: &Text) -> Result<Turn, NoMemory>
-        ensures ok { IfOk result (λ turn. turn ≡ (put_absent name.now key.now (lasting text.now) (found self.old.entries key.now) self.old).turn) }
-        ensures after { OnOk result (self.new ≡ (put_absent name.now key.now (lasting text.now) (found self.old.entries key.now) self.old).state) }
+        ensures ok { IfOk result (λ turn. turn ≡ (map_turns.put_absent name.now key.now (map_turns.lasting text.now) (dicts.found self.old.entries key.now) self.old).turn) }
+        ensures after { OnOk result (self.new ≡ (map_turns.put_absent name.now key.now (map_turns.lasting text.now) (dicts.found self.old.entries key.now) self.old).state) }
         ensures err { OnErr result (self.new ≡ self.old) }
     {
         match self.entries.get(key) {
             None => self.put(name, key, text, None),
             Some(old) => {
                 let reply = Reply::Found(old.text().copy()?);
-                Ok(self.quiet(reply))
+                Ok(Turn::quiet(self.alloc, reply))
             }
         }
     }
 
     /// Puts a text at a key that has one.
     fn replace(&mut self, name: &Name, key: &Key, text: &Text) -> Result<Turn, NoMemory>
-        ensures ok { IfOk result (λ turn. turn ≡ (replace_item name.now key.now (lasting text.now) (found self.old.entries key.now) self.old).turn) }
-        ensures after { OnOk result (self.new ≡ (replace_item name.now key.now (lasting text.now) (found self.old.entries key.now) self.old).state) }
+        ensures ok { IfOk result (λ turn. turn ≡ (map_turns.replace_item name.now key.now (map_turns.lasting text.now) (dicts.found self.old.entries key.now) self.old).turn) }
+        ensures after { OnOk result (self.new ≡ (map_turns.replace_item name.now key.now (map_turns.lasting text.now) (dicts.found self.old.entries key.now) self.old).state) }
         ensures err { OnErr result (self.new ≡ self.old) }
     {
         if self.entries.contains(key) {
             self.put(name, key, text, None)
         } else {
-            Ok(self.quiet(Reply::Nothing))
+            Ok(Turn::quiet(self.alloc, Reply::Nothing))
         }
     }
 
     /// Takes the entry of a key out, if there is one, and tells of it.
     fn remove(&mut self, name: &Name, key: &Key) -> Result<Turn, NoMemory>
-        ensures ok { IfOk result (λ turn. turn ≡ (remove_item name.now key.now (found self.old.entries key.now) self.old).turn) }
-        ensures after { OnOk result (self.new ≡ (remove_item name.now key.now (found self.old.entries key.now) self.old).state) }
+        ensures ok { IfOk result (λ turn. turn ≡ (map_turns.remove_item name.now key.now (dicts.found self.old.entries key.now) self.old).turn) }
+        ensures after { OnOk result (self.new ≡ (map_turns.remove_item name.now key.now (dicts.found self.old.entries key.now) self.old).state) }
         ensures err { OnErr result (self.new ≡ self.old) }
     {
         if !self.entries.contains(key) {
-            return Ok(self.quiet(Reply::Nothing));
+            return Ok(Turn::quiet(self.alloc, Reply::Nothing));
         }
         let own = key.copy()?;
         let mut told = List::new(self.alloc);
         self.tell_removed(&mut told, name, key)?;
         match self.entries.remove(own) {
-            None => Ok(self.quiet(Reply::Nothing)),
+            None => Ok(Turn::quiet(self.alloc, Reply::Nothing)),
             Some(old) => Ok(Turn {
                 reply: Reply::Found(old.into_text()),
                 told,
@@ -213,8 +203,8 @@ impl MapBox {
 
     /// Takes all entries out, and tells of each in ascending order of key.
     fn clear(&mut self, name: &Name) -> Result<Turn, NoMemory>
-        ensures ok { IfOk result (λ turn. turn ≡ (map_act name.now 0 0 MapOp.Clear self.old).turn) }
-        ensures after { OnOk result (self.new ≡ (map_act name.now 0 0 MapOp.Clear self.old).state) }
+        ensures ok { IfOk result (λ turn. turn ≡ (map_turns.map_act name.now 0 0 MapOp.Clear self.old).turn) }
+        ensures after { OnOk result (self.new ≡ (map_turns.map_act name.now 0 0 MapOp.Clear self.old).state) }
         ensures err { OnErr result (self.new ≡ self.old) }
     {
         let told = self.tell_all(name)?;
@@ -227,12 +217,12 @@ impl MapBox {
 
     /// The session listens from now on.
     fn listen(&mut self, session: u64) -> Result<Turn, NoMemory>
-        ensures ok { IfOk result (λ turn. turn ≡ (map_act [] 0 session MapOp.Listen self.old).turn) }
-        ensures after { OnOk result (self.new ≡ (map_act [] 0 session MapOp.Listen self.old).state) }
+        ensures ok { IfOk result (λ turn. turn ≡ (map_turns.map_act [] 0 session MapOp.Listen self.old).turn) }
+        ensures after { OnOk result (self.new ≡ (map_turns.map_act [] 0 session MapOp.Listen self.old).state) }
         ensures err { OnErr result (self.new ≡ self.old) }
     {
         let reply = self.listeners.listen(session)?;
-        Ok(self.quiet(reply))
+        Ok(Turn::quiet(self.alloc, reply))
     }
 
     /// What the listeners are told where a text comes to a key. Nothing is copied where nobody listens.
@@ -242,7 +232,7 @@ impl MapBox {
         key: &Key,
         text: &Text,
     ) -> Result<List<(u64, Event)>, NoMemory>
-        ensures { IfOk result (λ told. told ≡ tell self.now.listeners (Event.Changed name.now key.now text.now)) }
+        ensures { IfOk result (λ told. told ≡ resources.tell self.now.listeners (Event.Changed name.now key.now text.now)) }
     {
         if self.listeners.is_empty() {
             return Ok(List::new(self.alloc));
@@ -261,7 +251,7 @@ impl MapBox {
         name: &Name,
         key: &Key,
     ) -> Result<(), NoMemory>
-        ensures { OnOk result (told.new ≡ told.old ++ tell self.now.listeners (Event.Removed name.now key.now)) }
+        ensures { OnOk result (told.new ≡ told.old ++ resources.tell self.now.listeners (Event.Removed name.now key.now)) }
     {
         if self.listeners.is_empty() {
             return Ok(());
@@ -275,7 +265,7 @@ impl MapBox {
 
     /// What the listeners are told where all keys go.
     fn tell_all(&self, name: &Name) -> Result<List<(u64, Event)>, NoMemory>
-        ensures { IfOk result (λ told. told ≡ tell_keys name.now self.now.listeners (keys_of self.now.entries)) }
+        ensures { IfOk result (λ told. told ≡ map_told.tell_keys name.now self.now.listeners (keys_of self.now.entries)) }
     {
         let mut told = List::new(self.alloc);
         for key in self.entries.keys() {
@@ -286,7 +276,7 @@ impl MapBox {
 
     /// What the listeners are told where these keys go.
     fn tell_ended(&self, name: &Name, keys: &BTreeSet<Key>) -> Result<List<(u64, Event)>, NoMemory>
-        ensures { IfOk result (λ told. told ≡ tell_keys name.now self.now.listeners keys.now.keys) }
+        ensures { IfOk result (λ told. told ≡ map_told.tell_keys name.now self.now.listeners keys.now.keys) }
     {
         let mut told = List::new(self.alloc);
         for key in keys {

@@ -10,25 +10,25 @@ use Rattle.ax_types.specs.declared.ops.ValueOp.TheVariants as value_op
 use Rattle.ax_types.specs.declared.ops.LockOp.TheVariants as lock_op
 use Rattle.ax_types.specs.declared.ops.GroupOp.TheVariants as group_op
 use Rattle.ax_types.specs.declared.ops.TopicOp.TheVariants as topic_op
-use Rattle.spec_book.specs.Dict.{bytes_cmp, found, has_session, has_text}
-use Rattle.spec_book.specs.Resources.{Resource, AMap, AValue, ALock, AGroup, ATopic}
-use Rattle.spec_book.specs.Owners.{has_part}
-use Rattle.spec_book.specs.Book.{Book}
-use Rattle.res_deadlines.specs.Deadlines.{has_deadline}
-use Rattle.res_map.specs.Lives.{first_end}
+use Rattle.spec_book.specs.Dict as dicts
+use Rattle.spec_book.specs.Resources as resources
+use Rattle.spec_book.specs.Owners as owners
+use Rattle.spec_book.specs.Book as books
+use Rattle.res_deadlines.specs.Deadlines as deadlines
+use Rattle.res_map.specs.Lives as lives
 
 -- the first log time at which the life of an entry of the resource ends, where it has one
-abbrev pub next_end : Resource → Option ℕ
-next_end (AMap s) = first_end s.entries
+abbrev pub next_end : resources.Resource → Option ℕ
+next_end (resources.AMap s) = lives.first_end s.entries
 next_end r = None
 
 -- whether a session listens to the resource or has a part in it, so that the session's end may change it
-abbrev pub knows : Resource → ℕ → Bool
-knows (AMap s) session = has_session s.listeners session
-knows (AValue s) session = has_session s.listeners session
-knows (ALock s) session = has_part s session
-knows (AGroup s) session = has_session s.members session || has_session s.listeners session
-knows (ATopic s) session = has_session s session
+abbrev pub knows : resources.Resource → ℕ → Bool
+knows (resources.AMap s) session = dicts.has_session s.listeners session
+knows (resources.AValue s) session = dicts.has_session s.listeners session
+knows (resources.ALock s) session = owners.has_part s session
+knows (resources.AGroup s) session = dicts.has_session s.members session || dicts.has_session s.listeners session
+knows (resources.ATopic s) session = dicts.has_session s session
 knows r session = false
 
 -- whether an operation may make its session one that the resource knows
@@ -43,9 +43,9 @@ registers (op.Topic topic_op.Subscribe) = true
 registers o = false
 
 -- the index has the next end of each resource, with its name
-abbrev pub HasEnds : Book → List (ℕ × List ℕ) → Type 0
+abbrev pub HasEnds : books.Book → List (ℕ × List ℕ) → Type 0
 HasEnds book ends =
-    (name : List ℕ) (r : Resource) (time : ℕ) → found book name ≡ Some r → next_end r ≡ Some time → has_deadline bytes_cmp ends time name ≡ true
+    (name : List ℕ) (r : resources.Resource) (time : ℕ) → dicts.found book name ≡ Some r → next_end r ≡ Some time → deadlines.has_deadline dicts.bytes_cmp ends time name ≡ true
 
 -- the names of a session, where it has any
 abbrev pub names_of : Option (List (List ℕ)) → List (List ℕ)
@@ -56,7 +56,7 @@ abbrev pub session_names : List (ℕ × List (List ℕ)) → ℕ → List (List 
 session_names index session = names_of (lookup (is_at (nat_cmp session)) index)
 
 -- the index has, for each session, the name of each resource that knows it
-abbrev pub HasNames : Book → List (ℕ × List (List ℕ)) → Type 0
+abbrev pub HasNames : books.Book → List (ℕ × List (List ℕ)) → Type 0
 HasNames book index =
-    (name : List ℕ) (r : Resource) (session : ℕ) → found book name ≡ Some r → knows r session ≡ true
-    → has_text (session_names index session) name ≡ true
+    (name : List ℕ) (r : resources.Resource) (session : ℕ) → dicts.found book name ≡ Some r → knows r session ≡ true
+    → dicts.has_text (session_names index session) name ≡ true

@@ -1,7 +1,7 @@
 pub mod Indexes
 pub mod Kept
 pub mod Seen
-pub mod Single
+pub mod OneOfEach
 pub mod State
-pub mod Steps
+pub mod BookSteps
 pub mod Walk

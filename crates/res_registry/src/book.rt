@@ -1,5 +1,5 @@
 ghost use Rattle.std.specs.Prelude.{◌≡◌, true, false, [], IfOk, OnOk, OnErr};
-ghost use Rattle.spec_book.specs.Book.{acted, ask};
+ghost use Rattle.spec_book.specs.Book as books;
 
 use crate::shelf::Shelf;
 use ax_types::{Act, Duplicate, Name, NoMemory, Query, Reply, Turn};
@@ -17,14 +17,14 @@ pub struct Book {
 
 impl Model for Book {
     ghost use Rattle.std.specs.Prelude.{◌≡◌, false};
-    ghost use Rattle.res_registry.specs.Kept.{IsKept};
-    ghost use Rattle.res_registry.specs.State.{BookState};
+    ghost use Rattle.res_registry.specs.Kept as kept;
+    ghost use Rattle.res_registry.specs.State as states;
 
-    ghost Value = { BookState };
+    ghost Value = { states.BookState };
 
     ghost view = { λ a. record { resources = a.shelf.slots.entries; is_spent = a.is_spent } };
 
-    ghost invariant = { λ a. a.is_spent ≡ false → IsKept a.shelf.slots.entries a.shelf.ends a.shelf.touched };
+    ghost invariant = { λ a. a.is_spent ≡ false → kept.IsIndexedBook a.shelf.slots.entries a.shelf.ends a.shelf.touched };
 }
 
 impl Book {
@@ -43,8 +43,8 @@ impl Book {
     /// book is spent.
     pub fn act(&mut self, place: u64, time: u64, act: &Act) -> Result<Turn, NoMemory>
         requires { self.old.is_spent ≡ false }
-        ensures ok { IfOk result (λ turn. turn ≡ (acted self.old.resources place time act.now).turn) }
-        ensures after { OnOk result (self.new ≡ record { resources = (acted self.old.resources place time act.now).state; is_spent = false }) }
+        ensures ok { IfOk result (λ turn. turn ≡ (books.acted self.old.resources place time act.now).turn) }
+        ensures after { OnOk result (self.new ≡ record { resources = (books.acted self.old.resources place time act.now).state; is_spent = false }) }
         ensures err { OnErr result (self.new.is_spent ≡ true) }
     {
         self.is_spent = true;
@@ -55,7 +55,7 @@ impl Book {
 
     /// What a query at a name is answered. An unused name answers as a new resource of the query's kind.
     pub fn ask(&self, name: &Name, query: &Query) -> Result<Reply, NoMemory>
-        ensures { IfOk result (λ reply. reply ≡ ask self.now.resources name.now query.now) }
+        ensures { IfOk result (λ reply. reply ≡ books.ask self.now.resources name.now query.now) }
     {
         self.shelf.ask(self.alloc, name, query)
     }

@@ -1,12 +1,12 @@
 ghost use Rattle.std.specs.Prelude.{◌≡◌};
-ghost use Rattle.spec_book.specs.Book.{op_kind, query_kind};
-ghost use Rattle.res_registry.specs.Indexes.{registers};
+ghost use Rattle.spec_book.specs.Book as books;
+ghost use Rattle.res_registry.specs.Indexes as indexes;
 
 use ax_types::{GroupOp, Kind, LockOp, MapOp, Op, Query, TopicOp, ValueOp};
 
 /// The kind that an operation is of.
 pub fn op_kind(op: &Op) -> Kind
-    ensures { result ≡ op_kind op.now }
+    ensures { result ≡ books.op_kind op.now }
 {
     match op {
         Op::Map(_) => Kind::Map,
@@ -23,7 +23,7 @@ pub fn op_kind(op: &Op) -> Kind
 
 /// The kind that a query is of.
 pub fn query_kind(query: &Query) -> Kind
-    ensures { result ≡ query_kind query.now }
+    ensures { result ≡ books.query_kind query.now }
 {
     match query {
         Query::Map(_) => Kind::Map,
@@ -40,7 +40,7 @@ pub fn query_kind(query: &Query) -> Kind
 
 /// Whether an operation may make its session one that the resource knows.
 pub fn registers(op: &Op) -> bool
-    ensures { result ≡ registers op.now }
+    ensures { result ≡ indexes.registers op.now }
 {
     match op {
         Op::Map(MapOp::Listen)

@@ -9,6 +9,3 @@ mod slot;
 mod visits;
 
 pub use crate::book::Book;
-
-#[cfg(test)]
-mod tests;

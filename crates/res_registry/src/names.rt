@@ -2,9 +2,9 @@ ghost use Rattle.std.specs.Prelude.{◌≡◌, ℕ, List as Items, [], true, fal
 ghost use Rattle.std.specs.Ordering.{nat_cmp};
 ghost use Rattle.std.specs.List.Sorted.{IsStrictlySortedBy};
 ghost use Rattle.std.specs.BTreeMap.{is_at};
-ghost use Rattle.spec_book.specs.Dict.{bytes_cmp, has_text};
-ghost use Rattle.res_registry.specs.Indexes.{session_names, registers};
-ghost use Rattle.res_registry.specs.Steps.{NotesName};
+ghost use Rattle.spec_book.specs.Dict as dicts;
+ghost use Rattle.res_registry.specs.Indexes as indexes;
+ghost use Rattle.res_registry.specs.BookSteps as book_steps;
 
 use crate::kinds::registers;
 use ax_types::{Duplicate, Name, NoMemory, Op};
@@ -46,7 +46,7 @@ impl Names {
 
     /// Adds a name. The names are unchanged after want of memory.
     pub fn add(&mut self, name: &Name) -> Result<(), NoMemory>
-        ensures ok { OnOk result ((q : Items ℕ) → has_text self.new q ≡ cond (is_at (bytes_cmp name.now) q) true (has_text self.old q)) }
+        ensures ok { OnOk result ((q : Items ℕ) → dicts.has_text self.new q ≡ cond (is_at (dicts.bytes_cmp name.now) q) true (dicts.has_text self.old q)) }
         ensures err { OnErr result (self.new ≡ self.old) }
     {
         if !self.names.contains(name) {
@@ -58,7 +58,7 @@ impl Names {
     /// The names, in ascending order.
     pub fn iter(&self) -> Iter<'_, Name>
         ensures rest { result ≡ self.now }
-        ensures ascending { IsStrictlySortedBy bytes_cmp self.now }
+        ensures ascending { IsStrictlySortedBy dicts.bytes_cmp self.now }
     {
         self.names.iter()
     }
@@ -103,8 +103,8 @@ impl Touched {
 
     /// Adds the name to those of the session.
     fn add(&mut self, session: u64, name: &Name) -> Result<(), NoMemory>
-        ensures keeps { OnOk result ((s : ℕ) (q : Items ℕ) → has_text (session_names self.old s) q ≡ true → has_text (session_names self.new s) q ≡ true) }
-        ensures has { OnOk result (has_text (session_names self.new session) name.now ≡ true) }
+        ensures keeps { OnOk result ((s : ℕ) (q : Items ℕ) → dicts.has_text (indexes.session_names self.old s) q ≡ true → dicts.has_text (indexes.session_names self.new s) q ≡ true) }
+        ensures has { OnOk result (dicts.has_text (indexes.session_names self.new session) name.now ≡ true) }
     {
         match self.names.get_mut(&session) {
             Some(names) => {
@@ -122,7 +122,7 @@ impl Touched {
 
     /// Adds the name to those of the session where the operation may make the resource know the session.
     pub fn note(&mut self, session: u64, name: &Name, op: &Op) -> Result<(), NoMemory>
-        ensures { OnOk result (NotesName self.old self.new session name.now op.now) }
+        ensures { OnOk result (book_steps.NotesName self.old self.new session name.now op.now) }
     {
         if registers(op) {
             self.add(session, name)?;
@@ -132,8 +132,8 @@ impl Touched {
 
     /// Takes the names of a session out.
     pub fn take(&mut self, session: u64) -> Names
-        ensures names { result ≡ session_names self.old session }
-        ensures others { (s : ℕ) → is_at (nat_cmp session) s ≡ false → session_names self.new s ≡ session_names self.old s }
+        ensures names { result ≡ indexes.session_names self.old session }
+        ensures others { (s : ℕ) → is_at (nat_cmp session) s ≡ false → indexes.session_names self.new s ≡ indexes.session_names self.old s }
     {
         match self.names.remove(&session) {
             None => Names::new(self.alloc),

@@ -1,21 +1,19 @@
 //! The resources by name, with the indexes of what has to be walked over.
 ghost use Rattle.std.specs.Prelude.{◌≡◌, [], None, IfOk, OnOk};
 ghost use Rattle.ax_types.specs.declared.entries.Act.TheVariants as act;
-ghost use Rattle.spec_book.specs.Book.{acted, ask, turn, turn_at, ended};
-ghost use Rattle.spec_book.specs.Dict.{found};
-ghost use Rattle.res_registry.specs.Kept.{IsKept};
+ghost use Rattle.spec_book.specs.Book as books;
+ghost use Rattle.spec_book.specs.Dict as dicts;
+ghost use Rattle.res_registry.specs.Kept as kept;
 
 use crate::kinds::{op_kind, query_kind};
 use crate::names::Touched;
 use crate::slot::Slot;
 use crate::visits;
+use ax_types::limits::ROOM;
 use ax_types::{Act, Duplicate, List, Name, NoMemory, Op, Query, Reply, Turn};
 use res_deadlines::Deadlines;
 use std::alloc::Global;
 use std::collections::BTreeMap;
-
-/// The most names of a book.
-pub const MAX_NAMES: usize = 1024;
 
 /// The resources by name, the next end of a life by name, and for each session the names of resources that may know it.
 /// After want of memory an act may be half done.
@@ -30,7 +28,7 @@ impl Shelf {
     /// No resource. It takes no memory.
     pub fn new(alloc: Global) -> Self
         ensures empty { result.slots.entries ≡ [] }
-        ensures kept { IsKept result.slots.entries result.ends result.touched }
+        ensures kept { kept.IsIndexedBook result.slots.entries result.ends result.touched }
     {
         Shelf {
             slots: BTreeMap::new(alloc),
@@ -41,10 +39,10 @@ impl Shelf {
 
     /// One act of a history, at its place and log time.
     pub fn act(&mut self, alloc: Global, place: u64, time: u64, act: &Act) -> Result<Turn, NoMemory>
-        requires { IsKept self.old.slots.entries self.old.ends self.old.touched }
-        ensures turn { IfOk result (λ turn. turn ≡ (acted self.old.slots.entries place time act.now).turn) }
-        ensures after { OnOk result (self.new.slots.entries ≡ (acted self.old.slots.entries place time act.now).state) }
-        ensures kept { OnOk result (IsKept self.new.slots.entries self.new.ends self.new.touched) }
+        requires { kept.IsIndexedBook self.old.slots.entries self.old.ends self.old.touched }
+        ensures turn { IfOk result (λ turn. turn ≡ (books.acted self.old.slots.entries place time act.now).turn) }
+        ensures after { OnOk result (self.new.slots.entries ≡ (books.acted self.old.slots.entries place time act.now).state) }
+        ensures kept { OnOk result (kept.IsIndexedBook self.new.slots.entries self.new.ends self.new.touched) }
     {
         match act {
             Act::Nothing | Act::Open { .. } | Act::Keep { .. } => self.idle(alloc, time),
@@ -57,7 +55,7 @@ impl Shelf {
 
     /// What a query at a name is answered. An unused name answers as a new resource of the query's kind.
     pub fn ask(&self, alloc: Global, name: &Name, query: &Query) -> Result<Reply, NoMemory>
-        ensures { IfOk result (λ reply. reply ≡ ask self.now.slots.entries name.now query.now) }
+        ensures { IfOk result (λ reply. reply ≡ books.ask self.now.slots.entries name.now query.now) }
     {
         match self.slots.get(name) {
             None => Slot::new(alloc, query_kind(query)).ask(query),
@@ -67,10 +65,10 @@ impl Shelf {
 
     /// An act at which only lives end.
     fn idle(&mut self, alloc: Global, time: u64) -> Result<Turn, NoMemory>
-        requires { IsKept self.old.slots.entries self.old.ends self.old.touched }
-        ensures turn { IfOk result (λ turn. turn ≡ (acted self.old.slots.entries 0 time act.Nothing).turn) }
-        ensures after { OnOk result (self.new.slots.entries ≡ (acted self.old.slots.entries 0 time act.Nothing).state) }
-        ensures kept { OnOk result (IsKept self.new.slots.entries self.new.ends self.new.touched) }
+        requires { kept.IsIndexedBook self.old.slots.entries self.old.ends self.old.touched }
+        ensures turn { IfOk result (λ turn. turn ≡ (books.acted self.old.slots.entries 0 time act.Nothing).turn) }
+        ensures after { OnOk result (self.new.slots.entries ≡ (books.acted self.old.slots.entries 0 time act.Nothing).state) }
+        ensures kept { OnOk result (kept.IsIndexedBook self.new.slots.entries self.new.ends self.new.touched) }
     {
         let told = visits::pass(&mut self.slots, &mut self.ends, alloc, time)?;
         Ok(Turn {
@@ -89,10 +87,10 @@ impl Shelf {
         name: &Name,
         op: &Op,
     ) -> Result<Turn, NoMemory>
-        requires { IsKept self.old.slots.entries self.old.ends self.old.touched }
-        ensures turn { IfOk result (λ turn. turn ≡ (acted self.old.slots.entries place time (act.Do session name.now op.now)).turn) }
-        ensures after { OnOk result (self.new.slots.entries ≡ (acted self.old.slots.entries place time (act.Do session name.now op.now)).state) }
-        ensures kept { OnOk result (IsKept self.new.slots.entries self.new.ends self.new.touched) }
+        requires { kept.IsIndexedBook self.old.slots.entries self.old.ends self.old.touched }
+        ensures turn { IfOk result (λ turn. turn ≡ (books.acted self.old.slots.entries place time (act.Do session name.now op.now)).turn) }
+        ensures after { OnOk result (self.new.slots.entries ≡ (books.acted self.old.slots.entries place time (act.Do session name.now op.now)).state) }
+        ensures kept { OnOk result (kept.IsIndexedBook self.new.slots.entries self.new.ends self.new.touched) }
     {
         let mut told = visits::pass(&mut self.slots, &mut self.ends, alloc, time)?;
         let turn = self.turn(alloc, place, time, session, name, op)?;
@@ -113,10 +111,10 @@ impl Shelf {
         name: &Name,
         op: &Op,
     ) -> Result<Turn, NoMemory>
-        requires { IsKept self.old.slots.entries self.old.ends self.old.touched }
-        ensures turn { IfOk result (λ t. t ≡ (turn self.old.slots.entries place time session name.now op.now).turn) }
-        ensures after { OnOk result (self.new.slots.entries ≡ (turn self.old.slots.entries place time session name.now op.now).state) }
-        ensures kept { OnOk result (IsKept self.new.slots.entries self.new.ends self.new.touched) }
+        requires { kept.IsIndexedBook self.old.slots.entries self.old.ends self.old.touched }
+        ensures turn { IfOk result (λ t. t ≡ (books.turn self.old.slots.entries place time session name.now op.now).turn) }
+        ensures after { OnOk result (self.new.slots.entries ≡ (books.turn self.old.slots.entries place time session name.now op.now).state) }
+        ensures kept { OnOk result (kept.IsIndexedBook self.new.slots.entries self.new.ends self.new.touched) }
     {
         match self.slots.get_mut(name) {
             None => self.first_turn(alloc, place, time, session, name, op),
@@ -141,13 +139,13 @@ impl Shelf {
         name: &Name,
         op: &Op,
     ) -> Result<Turn, NoMemory>
-        requires kept { IsKept self.old.slots.entries self.old.ends self.old.touched }
-        requires absent { found self.old.slots.entries name.now ≡ None }
-        ensures turn { IfOk result (λ t. t ≡ (turn_at self.old.slots.entries place time session name.now op.now None).turn) }
-        ensures after { OnOk result (self.new.slots.entries ≡ (turn_at self.old.slots.entries place time session name.now op.now None).state) }
-        ensures kept { OnOk result (IsKept self.new.slots.entries self.new.ends self.new.touched) }
+        requires kept { kept.IsIndexedBook self.old.slots.entries self.old.ends self.old.touched }
+        requires absent { dicts.found self.old.slots.entries name.now ≡ None }
+        ensures turn { IfOk result (λ t. t ≡ (books.turn_at self.old.slots.entries place time session name.now op.now None).turn) }
+        ensures after { OnOk result (self.new.slots.entries ≡ (books.turn_at self.old.slots.entries place time session name.now op.now None).state) }
+        ensures kept { OnOk result (kept.IsIndexedBook self.new.slots.entries self.new.ends self.new.touched) }
     {
-        if self.slots.len() >= MAX_NAMES {
+        if self.slots.len() >= ROOM {
             return Ok(Turn {
                 reply: Reply::Full,
                 told: List::new(alloc),
@@ -164,10 +162,10 @@ impl Shelf {
     /// The end of a session: it listens no more, then lives end, then it leaves queues, locks and groups. Only the names
     /// that it touched are walked over.
     fn end(&mut self, alloc: Global, place: u64, time: u64, session: u64) -> Result<Turn, NoMemory>
-        requires { IsKept self.old.slots.entries self.old.ends self.old.touched }
-        ensures turn { IfOk result (λ turn. turn ≡ (ended self.old.slots.entries place time session).turn) }
-        ensures after { OnOk result (self.new.slots.entries ≡ (ended self.old.slots.entries place time session).state) }
-        ensures kept { OnOk result (IsKept self.new.slots.entries self.new.ends self.new.touched) }
+        requires { kept.IsIndexedBook self.old.slots.entries self.old.ends self.old.touched }
+        ensures turn { IfOk result (λ turn. turn ≡ (books.ended self.old.slots.entries place time session).turn) }
+        ensures after { OnOk result (self.new.slots.entries ≡ (books.ended self.old.slots.entries place time session).state) }
+        ensures kept { OnOk result (kept.IsIndexedBook self.new.slots.entries self.new.ends self.new.touched) }
     {
         let names = self.touched.take(session);
         visits::unlisten_all(&mut self.slots, &names, session);

@@ -1,7 +1,7 @@
 ghost use Rattle.std.specs.Prelude.{◌≡◌, [], IfOk, OnOk, OnErr};
-ghost use Rattle.spec_book.specs.Resources.{new_resource, replied};
-ghost use Rattle.spec_book.specs.Book.{resource_act, resource_ask, unlistened, resource_pass, resource_passed, resource_end};
-ghost use Rattle.res_registry.specs.Indexes.{next_end};
+ghost use Rattle.spec_book.specs.Resources as resources;
+ghost use Rattle.spec_book.specs.Book as books;
+ghost use Rattle.res_registry.specs.Indexes as indexes;
 
 use ax_types::{Duplicate, Event, Kind, List, Name, NoMemory, Op, Query, Reply, Turn};
 use res_coll::{MultimapBox, QueueBox, SetBox, TopicBox};
@@ -34,19 +34,19 @@ pub struct Slot {
 }
 
 impl Model for Slot {
-    ghost use Rattle.spec_book.specs.Resources.{Resource};
+    ghost use Rattle.spec_book.specs.Resources as resources;
 
-    ghost Value = { Resource };
+    ghost Value = { resources.Resource };
 
-    ghost use Rattle.res_registry.specs.Seen.{seen};
+    ghost use Rattle.res_registry.specs.Seen as seen;
 
-    ghost view = { λ a. seen a.state };
+    ghost view = { λ a. seen.resource_seen a.state };
 }
 
 impl Slot {
     /// A new resource of a kind. It takes no memory.
     pub fn new(alloc: Global, kind: Kind) -> Self
-        ensures { result ≡ new_resource kind }
+        ensures { result ≡ resources.new_resource kind }
     {
         let state = match kind {
             Kind::Map => State::Map(MapBox::new(alloc)),
@@ -72,8 +72,8 @@ impl Slot {
         session: u64,
         op: &Op,
     ) -> Result<Turn, NoMemory>
-        ensures ok { IfOk result (λ turn. turn ≡ (resource_act name.now place time session op.now self.old).turn) }
-        ensures after { OnOk result (self.new ≡ (resource_act name.now place time session op.now self.old).state) }
+        ensures ok { IfOk result (λ turn. turn ≡ (books.resource_act name.now place time session op.now self.old).turn) }
+        ensures after { OnOk result (self.new ≡ (books.resource_act name.now place time session op.now self.old).state) }
         ensures err { OnErr result (self.new ≡ self.old) }
     {
         match (op, &mut self.state) {
@@ -88,13 +88,13 @@ impl Slot {
                 multimap.act(name, place, session, op)
             }
             (Op::Topic(op), State::Topic(topic)) => topic.act(name, place, session, op),
-            _ => Ok(quiet(self.alloc, Reply::WrongKind)),
+            _ => Ok(Turn::quiet(self.alloc, Reply::WrongKind)),
         }
     }
 
     /// What a query is answered; one of another kind is answered `WrongKind`.
     pub fn ask(&self, query: &Query) -> Result<Reply, NoMemory>
-        ensures { IfOk result (λ reply. reply ≡ resource_ask query.now self.now) }
+        ensures { IfOk result (λ reply. reply ≡ books.resource_ask query.now self.now) }
     {
         match (query, &self.state) {
             (Query::Map(query), State::Map(map)) => map.ask(query),
@@ -112,7 +112,7 @@ impl Slot {
 
     /// A session that ended listens no more.
     pub fn unlisten(&mut self, session: u64)
-        ensures { self.new ≡ unlistened session self.old }
+        ensures { self.new ≡ books.unlistened session self.old }
     {
         match &mut self.state {
             State::Map(map) => map.unlisten(session),
@@ -130,8 +130,8 @@ impl Slot {
     /// The entries of a map whose life has ended at a log time go. Answers what is told of it. The resource is unchanged
     /// after want of memory.
     pub fn pass(&mut self, name: &Name, time: u64) -> Result<List<(u64, Event)>, NoMemory>
-        ensures ok { IfOk result (λ told. told ≡ resource_passed name.now time self.old) }
-        ensures after { OnOk result (self.new ≡ resource_pass time self.old) }
+        ensures ok { IfOk result (λ told. told ≡ books.resource_passed name.now time self.old) }
+        ensures after { OnOk result (self.new ≡ books.resource_pass time self.old) }
         ensures err { OnErr result (self.new ≡ self.old) }
     {
         match &mut self.state {
@@ -150,8 +150,8 @@ impl Slot {
     /// What the end of a session does after it listens no more: it leaves a lock's queue, a lock and a group. The resource
     /// is unchanged after want of memory.
     pub fn leave(&mut self, name: &Name, place: u64, session: u64) -> Result<Turn, NoMemory>
-        ensures ok { IfOk result (λ turn. turn ≡ (resource_end name.now place session self.old).turn) }
-        ensures after { OnOk result (self.new ≡ (resource_end name.now place session self.old).state) }
+        ensures ok { IfOk result (λ turn. turn ≡ (books.resource_end name.now place session self.old).turn) }
+        ensures after { OnOk result (self.new ≡ (books.resource_end name.now place session self.old).state) }
         ensures err { OnErr result (self.new ≡ self.old) }
     {
         match &mut self.state {
@@ -163,13 +163,13 @@ impl Slot {
             | State::Set(_)
             | State::Queue(_)
             | State::Multimap(_)
-            | State::Topic(_) => Ok(quiet(self.alloc, Reply::Done)),
+            | State::Topic(_) => Ok(Turn::quiet(self.alloc, Reply::Done)),
         }
     }
 
     /// The first log time at which the life of an entry ends, where one has a life.
     pub fn next_end(&self) -> Option<u128>
-        ensures { result ≡ next_end self.now }
+        ensures { result ≡ indexes.next_end self.now }
     {
         match &self.state {
             State::Map(map) => map.next_deadline(),
@@ -213,15 +213,5 @@ impl Clone for Slot {
             Ok(other) => Ok(other),
             Err(NoMemory) => Err(AllocError),
         }
-    }
-}
-
-/// A reply, and nobody told.
-fn quiet(alloc: Global, reply: Reply) -> Turn
-    ensures { result ≡ record { reply = reply; told = [] } }
-{
-    Turn {
-        reply,
-        told: List::new(alloc),
     }
 }

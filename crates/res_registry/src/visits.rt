@@ -2,10 +2,10 @@
 ghost use Rattle.std.specs.Prelude.{◌≡◌, ◌++◌, [], IfOk, OnOk, OnErr};
 ghost use Rattle.std.specs.List.Sorted.{IsStrictlySortedBy};
 ghost use Rattle.std.specs.Map.{keys_of};
-ghost use Rattle.spec_book.specs.Dict.{bytes_cmp};
-ghost use Rattle.spec_book.specs.Book.{pass, passed};
-ghost use Rattle.res_registry.specs.Indexes.{HasEnds};
-ghost use Rattle.res_registry.specs.Walk.{visited, walked_state, walked_told, unlisten_visit, pass_visit, leave_visit};
+ghost use Rattle.spec_book.specs.Dict as dicts;
+ghost use Rattle.spec_book.specs.Book as books;
+ghost use Rattle.res_registry.specs.Indexes as indexes;
+ghost use Rattle.res_registry.specs.Walk as walks;
 
 use crate::names::Names;
 use crate::slot::Slot;
@@ -16,7 +16,7 @@ use std::collections::BTreeMap;
 
 /// The session that ended listens no more at a name.
 fn unlisten_at(slots: &mut BTreeMap<Name, Slot>, name: &Name, session: u64)
-    ensures { slots.new.entries ≡ (visited (unlisten_visit session) slots.old.entries name.now).state }
+    ensures { slots.new.entries ≡ (walks.visited (walks.unlisten_visit session) slots.old.entries name.now).state }
 {
     if let Some(slot) = slots.get_mut(name) {
         slot.unlisten(session);
@@ -25,8 +25,8 @@ fn unlisten_at(slots: &mut BTreeMap<Name, Slot>, name: &Name, session: u64)
 
 /// The session that ended listens no more at the names.
 pub fn unlisten_all(slots: &mut BTreeMap<Name, Slot>, names: &Names, session: u64)
-    ensures after { slots.new.entries ≡ walked_state (unlisten_visit session) names.now slots.old.entries }
-    ensures ascending { IsStrictlySortedBy bytes_cmp names.now }
+    ensures after { slots.new.entries ≡ walks.walked_state (walks.unlisten_visit session) names.now slots.old.entries }
+    ensures ascending { IsStrictlySortedBy dicts.bytes_cmp names.now }
 {
     for name in names.iter() {
         unlisten_at(slots, name, session);
@@ -41,8 +41,8 @@ fn leave_at(
     place: u64,
     session: u64,
 ) -> Result<List<(u64, Event)>, NoMemory>
-    ensures told { IfOk result (λ told. told ≡ (visited (leave_visit place session) slots.old.entries name.now).turn.told) }
-    ensures after { OnOk result (slots.new.entries ≡ (visited (leave_visit place session) slots.old.entries name.now).state) }
+    ensures told { IfOk result (λ told. told ≡ (walks.visited (walks.leave_visit place session) slots.old.entries name.now).turn.told) }
+    ensures after { OnOk result (slots.new.entries ≡ (walks.visited (walks.leave_visit place session) slots.old.entries name.now).state) }
 {
     match slots.get_mut(name) {
         None => Ok(List::new(alloc)),
@@ -59,8 +59,8 @@ pub fn leave_all(
     session: u64,
     told: &mut Vec<(u64, Event)>,
 ) -> Result<(), NoMemory>
-    ensures told { OnOk result (told.new.items ≡ told.old.items ++ walked_told (leave_visit place session) names.now slots.old.entries) }
-    ensures after { OnOk result (slots.new.entries ≡ walked_state (leave_visit place session) names.now slots.old.entries) }
+    ensures told { OnOk result (told.new.items ≡ told.old.items ++ walks.walked_told (walks.leave_visit place session) names.now slots.old.entries) }
+    ensures after { OnOk result (slots.new.entries ≡ walks.walked_state (walks.leave_visit place session) names.now slots.old.entries) }
 {
     for name in names.iter() {
         let more = leave_at(slots, alloc, name, place, session)?;
@@ -77,9 +77,9 @@ fn pass_at(
     name: &Name,
     time: u64,
 ) -> Result<List<(u64, Event)>, NoMemory>
-    ensures told { IfOk result (λ told. told ≡ (visited (pass_visit time) slots.old.entries name.now).turn.told) }
-    ensures after { OnOk result (slots.new.entries ≡ (visited (pass_visit time) slots.old.entries name.now).state) }
-    ensures ends { OnOk result (HasEnds slots.old.entries ends.old → HasEnds slots.new.entries ends.new) }
+    ensures told { IfOk result (λ told. told ≡ (walks.visited (walks.pass_visit time) slots.old.entries name.now).turn.told) }
+    ensures after { OnOk result (slots.new.entries ≡ (walks.visited (walks.pass_visit time) slots.old.entries name.now).state) }
+    ensures ends { OnOk result (indexes.HasEnds slots.old.entries ends.old → indexes.HasEnds slots.new.entries ends.new) }
 {
     match slots.get_mut(name) {
         None => Ok(List::new(alloc)),
@@ -101,10 +101,10 @@ fn pass_all(
     names: &Names,
     time: u64,
 ) -> Result<Vec<(u64, Event)>, NoMemory>
-    ensures told { IfOk result (λ told. told.items ≡ walked_told (pass_visit time) names.now slots.old.entries) }
-    ensures after { OnOk result (slots.new.entries ≡ walked_state (pass_visit time) names.now slots.old.entries) }
-    ensures ends { OnOk result (HasEnds slots.old.entries ends.old → HasEnds slots.new.entries ends.new) }
-    ensures ascending { IsStrictlySortedBy bytes_cmp names.now }
+    ensures told { IfOk result (λ told. told.items ≡ walks.walked_told (walks.pass_visit time) names.now slots.old.entries) }
+    ensures after { OnOk result (slots.new.entries ≡ walks.walked_state (walks.pass_visit time) names.now slots.old.entries) }
+    ensures ends { OnOk result (indexes.HasEnds slots.old.entries ends.old → indexes.HasEnds slots.new.entries ends.new) }
+    ensures ascending { IsStrictlySortedBy dicts.bytes_cmp names.now }
 {
     let mut told = Vec::new(alloc);
     for name in names.iter() {
@@ -122,11 +122,11 @@ pub fn pass(
     alloc: Global,
     time: u64,
 ) -> Result<Vec<(u64, Event)>, NoMemory>
-    requires ascending { IsStrictlySortedBy bytes_cmp (keys_of slots.old.entries) }
-    requires ends { HasEnds slots.old.entries ends.old }
-    ensures told { IfOk result (λ told. told.items ≡ passed time slots.old.entries) }
-    ensures after { OnOk result (slots.new.entries ≡ pass time slots.old.entries) }
-    ensures ends { OnOk result (HasEnds slots.new.entries ends.new) }
+    requires ascending { IsStrictlySortedBy dicts.bytes_cmp (keys_of slots.old.entries) }
+    requires ends { indexes.HasEnds slots.old.entries ends.old }
+    ensures told { IfOk result (λ told. told.items ≡ books.passed time slots.old.entries) }
+    ensures after { OnOk result (slots.new.entries ≡ books.pass time slots.old.entries) }
+    ensures ends { OnOk result (indexes.HasEnds slots.new.entries ends.new) }
 {
     if !ends.any_passed(time) {
         return Ok(Vec::new(alloc));

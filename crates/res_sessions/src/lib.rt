@@ -4,5 +4,5 @@
 mod listeners;
 mod queue;
 
-pub use listeners::{Listeners, MAX_LISTENERS};
+pub use listeners::Listeners;
 pub use queue::SessionQueue;

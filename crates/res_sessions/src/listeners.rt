@@ -2,17 +2,15 @@ ghost use Rattle.std.specs.Prelude.{◌≡◌, ℕ, ◌<◌, ◌≤◌, ◌^◌,
 ghost use Rattle.std.specs.Bool.{OnFalse};
 ghost use Rattle.std.specs.Ordering.{nat_cmp};
 ghost use Rattle.std.specs.List.Sorted.{IsStrictlySortedBy};
-ghost use Rattle.spec_book.specs.Dict.{has_session, without_session};
-ghost use Rattle.spec_book.specs.Scalars.{listen_reply, listen_after};
-ghost use Rattle.spec_book.specs.Resources.{tell};
+ghost use Rattle.spec_book.specs.Dict as dicts;
+ghost use Rattle.spec_book.specs.Scalars as scalars;
+ghost use Rattle.spec_book.specs.Resources as resources;
 
+use ax_types::limits::ROOM;
 use ax_types::{Duplicate, Event, List, NoMemory, Reply};
 use std::alloc::Global;
 use std::collections::BTreeSet;
 use std::marker::Model;
-
-/// The most sessions that listen to one resource.
-pub const MAX_LISTENERS: usize = 1024;
 
 /// The sessions that listen to a resource, which contracts see as their list in ascending order.
 #[derive(Drop)]
@@ -58,7 +56,7 @@ impl Listeners {
 
     /// Whether the session listens.
     pub fn contains(&self, session: u64) -> bool
-        ensures { result ≡ has_session self.now session }
+        ensures { result ≡ dicts.has_session self.now session }
     {
         self.sessions.contains(&session)
     }
@@ -66,14 +64,14 @@ impl Listeners {
     /// The session listens from now on: `Already` where it did before, `Full` where 1,024 others do. The listeners are
     /// unchanged after want of memory.
     pub fn listen(&mut self, session: u64) -> Result<Reply, NoMemory>
-        ensures ok { IfOk result (λ reply. reply ≡ listen_reply self.old session) }
-        ensures after { OnOk result (self.new ≡ listen_after self.old session) }
+        ensures ok { IfOk result (λ reply. reply ≡ scalars.listen_reply self.old session) }
+        ensures after { OnOk result (self.new ≡ scalars.listen_after self.old session) }
         ensures err { OnErr result (self.new ≡ self.old) }
     {
         if self.contains(session) {
             return Ok(Reply::Already);
         }
-        if self.len() >= MAX_LISTENERS {
+        if self.len() >= ROOM {
             return Ok(Reply::Full);
         }
         self.sessions.insert(session)?;
@@ -82,8 +80,8 @@ impl Listeners {
 
     /// The session listens no more. Answers whether it did.
     pub fn unlisten(&mut self, session: u64) -> bool
-        ensures listened { result ≡ has_session self.old session }
-        ensures after { self.new ≡ without_session self.old session }
+        ensures listened { result ≡ dicts.has_session self.old session }
+        ensures after { self.new ≡ dicts.without_session self.old session }
         ensures unchanged { OnFalse result (self.new ≡ self.old) }
     {
         self.sessions.remove(&session)
@@ -91,7 +89,7 @@ impl Listeners {
 
     /// The event for each listener, in ascending order of session.
     pub fn tell(&self, event: &Event) -> Result<List<(u64, Event)>, NoMemory>
-        ensures { IfOk result (λ told. told ≡ tell self.now event.now) }
+        ensures { IfOk result (λ told. told ≡ resources.tell self.now event.now) }
     {
         let mut told = List::with_capacity(self.alloc, self.sessions.len())?;
         self.tell_too(&mut told, event)?;
@@ -101,7 +99,7 @@ impl Listeners {
     /// Appends the event for each listener, in ascending order of session, to what is told already. After want of
     /// memory the list may have some of them.
     pub fn tell_too(&self, told: &mut List<(u64, Event)>, event: &Event) -> Result<(), NoMemory>
-        ensures { OnOk result (told.new ≡ told.old ++ tell self.now event.now) }
+        ensures { OnOk result (told.new ≡ told.old ++ resources.tell self.now event.now) }
     {
         for session in self.sessions.iter() {
             told.push((*session, event.copy()?))?;

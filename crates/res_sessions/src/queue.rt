@@ -2,8 +2,8 @@ ghost use Rattle.std.specs.Prelude.{◌≡◌, ℕ, ◌<◌, ◌^◌, false, Lis
 ghost use Rattle.std.specs.Bool.{OnFalse};
 ghost use Rattle.std.specs.Ordering.{nat_cmp};
 ghost use Rattle.std.specs.BTreeMap.{is_at};
-ghost use Rattle.spec_book.specs.Dict.{has_session, without_session};
-ghost use Rattle.res_sessions.specs.EachOnce.{EachOnce};
+ghost use Rattle.spec_book.specs.Dict as dicts;
+ghost use Rattle.res_sessions.specs.EachOnce as each_once;
 
 use ax_types::{Duplicate, List, NoMemory};
 use std::alloc::Global;
@@ -20,13 +20,13 @@ pub struct SessionQueue {
 
 impl Model for SessionQueue {
     ghost use Rattle.std.specs.Prelude.{ℕ, List as Items};
-    ghost use Rattle.res_sessions.specs.EachOnce.{IsIndexed};
+    ghost use Rattle.res_sessions.specs.EachOnce as each_once;
 
     ghost Value = { Items ℕ };
 
     ghost view = { λ a. a.sessions.items };
 
-    ghost invariant = { λ a. IsIndexed a.index.keys a.sessions.items };
+    ghost invariant = { λ a. each_once.IsIndexed a.index.keys a.sessions.items };
 }
 
 impl SessionQueue {
@@ -45,7 +45,7 @@ impl SessionQueue {
     pub fn len(&self) -> usize
         ensures len { result ≡ length self.now }
         ensures small { result < 2 ^ 63 }
-        ensures each_once { EachOnce self.now }
+        ensures each_once { each_once.EachOnce self.now }
     {
         self.sessions.len()
     }
@@ -59,7 +59,7 @@ impl SessionQueue {
 
     /// Whether the session is one of them.
     pub fn contains(&self, session: u64) -> bool
-        ensures { result ≡ has_session self.now session }
+        ensures { result ≡ dicts.has_session self.now session }
     {
         self.index.contains(&session)
     }
@@ -73,7 +73,7 @@ impl SessionQueue {
 
     /// The session that came first among the others than this one.
     pub fn first_without(&self, session: u64) -> Option<u64>
-        ensures { result ≡ slice_get (without_session self.now session) 0 }
+        ensures { result ≡ slice_get (dicts.without_session self.now session) 0 }
     {
         match self.at(0) {
             None => None,
@@ -96,7 +96,7 @@ impl SessionQueue {
 
     /// The session comes last, where it is none of them. The sessions are unchanged after want of memory.
     pub fn push(&mut self, session: u64) -> Result<(), NoMemory>
-        requires { has_session self.old session ≡ false }
+        requires { dicts.has_session self.old session ≡ false }
         ensures ok { OnOk result (self.new ≡ self.old ++ session ∷ []) }
         ensures err { OnErr result (self.new ≡ self.old) }
     {
@@ -114,7 +114,7 @@ impl SessionQueue {
     /// Takes the session that came first.
     pub fn pop_first(&mut self) -> Option<u64>
         ensures first { MatchOption result ((self.old ≡ []) × (self.new ≡ [])) (λ s. self.old ≡ s ∷ self.new) }
-        ensures gone { IfSome result (λ s. has_session self.new s ≡ false) }
+        ensures gone { IfSome result (λ s. dicts.has_session self.new s ≡ false) }
     {
         let first = self.sessions.pop_front()?;
         self.index.remove(&first);
@@ -123,8 +123,8 @@ impl SessionQueue {
 
     /// Takes the session away. Answers whether it was one of them.
     pub fn remove(&mut self, session: u64) -> bool
-        ensures found { result ≡ has_session self.old session }
-        ensures after { self.new ≡ without_session self.old session }
+        ensures found { result ≡ dicts.has_session self.old session }
+        ensures after { self.new ≡ dicts.without_session self.old session }
         ensures unchanged { OnFalse result (self.new ≡ self.old) }
     {
         match self.place_of(session) {

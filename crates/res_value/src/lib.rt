@@ -2,8 +2,6 @@
 #![tactic(auto)]
 
 mod long;
-#[cfg(test)]
-mod tests;
 mod value;
 
 pub use long::LongBox;

@@ -1,6 +1,6 @@
 ghost use Rattle.std.specs.Prelude.{◌≡◌, ℤ, pos, ◌+ℤ◌, IfOk, OnOk, OnErr};
-ghost use Rattle.spec_book.specs.Resources.{replied};
-ghost use Rattle.spec_book.specs.Scalars.{long_act, long_ask};
+ghost use Rattle.spec_book.specs.Resources as resources;
+ghost use Rattle.spec_book.specs.Scalars as scalars;
 
 use ax_types::{Duplicate, List, LongOp, LongQuery, Name, NoMemory, Reply, Turn};
 use std::alloc::Global;
@@ -38,8 +38,8 @@ impl LongBox {
         session: u64,
         op: &LongOp,
     ) -> Result<Turn, NoMemory>
-        ensures ok { IfOk result (λ turn. turn ≡ (long_act op.now self.old).turn) }
-        ensures after { OnOk result (self.new ≡ (long_act op.now self.old).state) }
+        ensures ok { IfOk result (λ turn. turn ≡ (scalars.long_act op.now self.old).turn) }
+        ensures after { OnOk result (self.new ≡ (scalars.long_act op.now self.old).state) }
         ensures err { OnErr result (self.new ≡ self.old) }
     {
         match op {
@@ -52,7 +52,7 @@ impl LongBox {
 
     /// What a query is answered.
     pub fn ask(&self, query: &LongQuery) -> Result<Reply, NoMemory>
-        ensures { IfOk result (λ reply. reply ≡ long_ask query.now self.now) }
+        ensures { IfOk result (λ reply. reply ≡ scalars.long_ask query.now self.now) }
     {
         match query {
             LongQuery::Get => Ok(Reply::Number(self.number)),
@@ -61,69 +61,59 @@ impl LongBox {
 
     /// The session ended: a long knows no session, so nothing changes.
     pub fn end(&mut self, name: &Name, place: u64, session: u64) -> Result<Turn, NoMemory>
-        ensures ok { IfOk result (λ turn. turn ≡ (replied self.old Reply.Done).turn) }
+        ensures ok { IfOk result (λ turn. turn ≡ (resources.replied self.old Reply.Done).turn) }
         ensures unchanged { self.new ≡ self.old }
     {
-        Ok(self.quiet(Reply::Done))
-    }
-
-    /// A reply, and nobody told.
-    fn quiet(&self, reply: Reply) -> Turn
-        ensures { result ≡ (replied self.now reply).turn }
-    {
-        Turn {
-            reply,
-            told: List::new(self.alloc),
-        }
+        Ok(Turn::quiet(self.alloc, Reply::Done))
     }
 
     /// Adds, and answers the sum.
     fn add(&mut self, delta: i64) -> Turn
-        ensures turn { result ≡ (long_act (LongOp.Add delta) self.old).turn }
-        ensures after { self.new ≡ (long_act (LongOp.Add delta) self.old).state }
+        ensures turn { result ≡ (scalars.long_act (LongOp.Add delta) self.old).turn }
+        ensures after { self.new ≡ (scalars.long_act (LongOp.Add delta) self.old).state }
     {
         match self.number.checked_add(delta) {
-            None => self.quiet(Reply::Overflow),
+            None => Turn::quiet(self.alloc, Reply::Overflow),
             Some(sum) => {
                 self.number = sum;
-                self.quiet(Reply::Number(sum))
+                Turn::quiet(self.alloc, Reply::Number(sum))
             }
         }
     }
 
     /// Adds, and answers what stood there.
     fn get_and_add(&mut self, delta: i64) -> Turn
-        ensures turn { result ≡ (long_act (LongOp.GetAndAdd delta) self.old).turn }
-        ensures after { self.new ≡ (long_act (LongOp.GetAndAdd delta) self.old).state }
+        ensures turn { result ≡ (scalars.long_act (LongOp.GetAndAdd delta) self.old).turn }
+        ensures after { self.new ≡ (scalars.long_act (LongOp.GetAndAdd delta) self.old).state }
     {
         match self.number.checked_add(delta) {
-            None => self.quiet(Reply::Overflow),
+            None => Turn::quiet(self.alloc, Reply::Overflow),
             Some(sum) => {
                 let old = mem::replace(&mut self.number, sum);
-                self.quiet(Reply::Number(old))
+                Turn::quiet(self.alloc, Reply::Number(old))
             }
         }
     }
 
     /// Sets, and answers what stood there.
     fn set(&mut self, number: i64) -> Turn
-        ensures turn { result ≡ (long_act (LongOp.Set number) self.old).turn }
-        ensures after { self.new ≡ (long_act (LongOp.Set number) self.old).state }
+        ensures turn { result ≡ (scalars.long_act (LongOp.Set number) self.old).turn }
+        ensures after { self.new ≡ (scalars.long_act (LongOp.Set number) self.old).state }
     {
         let old = mem::replace(&mut self.number, number);
-        self.quiet(Reply::Number(old))
+        Turn::quiet(self.alloc, Reply::Number(old))
     }
 
     /// Sets, where the expected number stands.
     fn compare_and_set(&mut self, expected: i64, number: i64) -> Turn
-        ensures turn { result ≡ (long_act (LongOp.Cas expected number) self.old).turn }
-        ensures after { self.new ≡ (long_act (LongOp.Cas expected number) self.old).state }
+        ensures turn { result ≡ (scalars.long_act (LongOp.Cas expected number) self.old).turn }
+        ensures after { self.new ≡ (scalars.long_act (LongOp.Cas expected number) self.old).state }
     {
         if self.number == expected {
             self.number = number;
-            self.quiet(Reply::Yes)
+            Turn::quiet(self.alloc, Reply::Yes)
         } else {
-            self.quiet(Reply::No)
+            Turn::quiet(self.alloc, Reply::No)
         }
     }
 }

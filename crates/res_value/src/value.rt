@@ -1,6 +1,6 @@
 ghost use Rattle.std.specs.Prelude.{◌≡◌, ℕ, IfOk, OnOk, OnErr, []};
-ghost use Rattle.spec_book.specs.Resources.{new_value, replied, tell};
-ghost use Rattle.spec_book.specs.Scalars.{value_act, value_ask, value_unlistened, holds_text, old_text};
+ghost use Rattle.spec_book.specs.Resources as resources;
+ghost use Rattle.spec_book.specs.Scalars as scalars;
 
 use ax_types::{Duplicate, Event, List, Name, NoMemory, Reply, Text, Turn, ValueOp, ValueQuery};
 use res_sessions::Listeners;
@@ -16,9 +16,9 @@ pub struct ValueBox {
 }
 
 impl Model for ValueBox {
-    ghost use Rattle.spec_book.specs.Resources.{ValueState};
+    ghost use Rattle.spec_book.specs.Resources as resources;
 
-    ghost Value = { ValueState };
+    ghost Value = { resources.ValueState };
 
     ghost view = { λ a. record { text = a.text; listeners = a.listeners } };
 }
@@ -26,7 +26,7 @@ impl Model for ValueBox {
 impl ValueBox {
     /// A value with no text, to which nobody listens. It takes no memory.
     pub fn new(alloc: Global) -> Self
-        ensures { result ≡ new_value }
+        ensures { result ≡ resources.new_value }
     {
         ValueBox {
             alloc,
@@ -43,8 +43,8 @@ impl ValueBox {
         session: u64,
         op: &ValueOp,
     ) -> Result<Turn, NoMemory>
-        ensures ok { IfOk result (λ turn. turn ≡ (value_act name.now session op.now self.old).turn) }
-        ensures after { OnOk result (self.new ≡ (value_act name.now session op.now self.old).state) }
+        ensures ok { IfOk result (λ turn. turn ≡ (scalars.value_act name.now session op.now self.old).turn) }
+        ensures after { OnOk result (self.new ≡ (scalars.value_act name.now session op.now self.old).state) }
         ensures err { OnErr result (self.new ≡ self.old) }
     {
         match op {
@@ -57,7 +57,7 @@ impl ValueBox {
 
     /// What a query is answered.
     pub fn ask(&self, query: &ValueQuery) -> Result<Reply, NoMemory>
-        ensures { IfOk result (λ reply. reply ≡ value_ask query.now self.now) }
+        ensures { IfOk result (λ reply. reply ≡ scalars.value_ask query.now self.now) }
     {
         match query {
             ValueQuery::Get => text_reply(&self.text),
@@ -66,34 +66,24 @@ impl ValueBox {
 
     /// The session ended: it listens no more, and nobody is told. The value is unchanged after want of memory.
     pub fn end(&mut self, name: &Name, place: u64, session: u64) -> Result<Turn, NoMemory>
-        ensures ok { IfOk result (λ turn. turn ≡ (replied self.old Reply.Done).turn) }
-        ensures after { OnOk result (self.new ≡ value_unlistened session self.old) }
+        ensures ok { IfOk result (λ turn. turn ≡ (resources.replied self.old Reply.Done).turn) }
+        ensures after { OnOk result (self.new ≡ scalars.value_unlistened session self.old) }
         ensures err { OnErr result (self.new ≡ self.old) }
     {
         self.unlisten(session);
-        Ok(self.quiet(Reply::Done))
+        Ok(Turn::quiet(self.alloc, Reply::Done))
     }
 
     /// The session listens no more.
     pub fn unlisten(&mut self, session: u64)
-        ensures { self.new ≡ value_unlistened session self.old }
+        ensures { self.new ≡ scalars.value_unlistened session self.old }
     {
         self.listeners.unlisten(session);
     }
 
-    /// A reply, and nobody told.
-    fn quiet(&self, reply: Reply) -> Turn
-        ensures { result ≡ (replied self.now reply).turn }
-    {
-        Turn {
-            reply,
-            told: List::new(self.alloc),
-        }
-    }
-
     /// What the listeners are told of a new text.
     fn tell_set(&self, name: &Name, text: &Text) -> Result<List<(u64, Event)>, NoMemory>
-        ensures { IfOk result (λ told. told ≡ tell self.now.listeners (Event.Set name.now text.now)) }
+        ensures { IfOk result (λ told. told ≡ resources.tell self.now.listeners (Event.Set name.now text.now)) }
     {
         if self.listeners.is_empty() {
             return Ok(List::new(self.alloc));
@@ -106,8 +96,8 @@ impl ValueBox {
 
     /// Puts a text there.
     fn set(&mut self, name: &Name, text: &Text) -> Result<Turn, NoMemory>
-        ensures ok { IfOk result (λ turn. turn ≡ (value_act name.now 0 (ValueOp.Set text.now) self.old).turn) }
-        ensures after { OnOk result (self.new ≡ (value_act name.now 0 (ValueOp.Set text.now) self.old).state) }
+        ensures ok { IfOk result (λ turn. turn ≡ (scalars.value_act name.now 0 (ValueOp.Set text.now) self.old).turn) }
+        ensures after { OnOk result (self.new ≡ (scalars.value_act name.now 0 (ValueOp.Set text.now) self.old).state) }
         ensures err { OnErr result (self.new ≡ self.old) }
     {
         let told = self.tell_set(name, text)?;
@@ -123,12 +113,12 @@ impl ValueBox {
         expected: &Text,
         text: &Text,
     ) -> Result<Turn, NoMemory>
-        ensures ok { IfOk result (λ turn. turn ≡ (value_act name.now 0 (ValueOp.Cas expected.now text.now) self.old).turn) }
-        ensures after { OnOk result (self.new ≡ (value_act name.now 0 (ValueOp.Cas expected.now text.now) self.old).state) }
+        ensures ok { IfOk result (λ turn. turn ≡ (scalars.value_act name.now 0 (ValueOp.Cas expected.now text.now) self.old).turn) }
+        ensures after { OnOk result (self.new ≡ (scalars.value_act name.now 0 (ValueOp.Cas expected.now text.now) self.old).state) }
         ensures err { OnErr result (self.new ≡ self.old) }
     {
         if !self.holds(expected) {
-            return Ok(self.quiet(Reply::No));
+            return Ok(Turn::quiet(self.alloc, Reply::No));
         }
         let told = self.tell_set(name, text)?;
         self.text = Some(text.copy()?);
@@ -140,7 +130,7 @@ impl ValueBox {
 
     /// Whether the text is what stands there.
     fn holds(&self, text: &Text) -> bool
-        ensures { result ≡ holds_text self.now.text text.now }
+        ensures { result ≡ scalars.holds_text self.now.text text.now }
     {
         match &self.text {
             None => false,
@@ -150,12 +140,12 @@ impl ValueBox {
 
     /// Takes the text away, if there is one.
     fn clear(&mut self, name: &Name) -> Result<Turn, NoMemory>
-        ensures ok { IfOk result (λ turn. turn ≡ (value_act name.now 0 ValueOp.Clear self.old).turn) }
-        ensures after { OnOk result (self.new ≡ (value_act name.now 0 ValueOp.Clear self.old).state) }
+        ensures ok { IfOk result (λ turn. turn ≡ (scalars.value_act name.now 0 ValueOp.Clear self.old).turn) }
+        ensures after { OnOk result (self.new ≡ (scalars.value_act name.now 0 ValueOp.Clear self.old).state) }
         ensures err { OnErr result (self.new ≡ self.old) }
     {
         if self.text.is_none() {
-            return Ok(self.quiet(Reply::Nothing));
+            return Ok(Turn::quiet(self.alloc, Reply::Nothing));
         }
         let told = self.listeners.tell(&Event::Cleared { name: name.copy()? })?;
         let reply = taken_reply(self.text.take());
@@ -164,12 +154,12 @@ impl ValueBox {
 
     /// The session listens from now on.
     fn listen(&mut self, session: u64) -> Result<Turn, NoMemory>
-        ensures ok { IfOk result (λ turn. turn ≡ (value_act [] session ValueOp.Listen self.old).turn) }
-        ensures after { OnOk result (self.new ≡ (value_act [] session ValueOp.Listen self.old).state) }
+        ensures ok { IfOk result (λ turn. turn ≡ (scalars.value_act [] session ValueOp.Listen self.old).turn) }
+        ensures after { OnOk result (self.new ≡ (scalars.value_act [] session ValueOp.Listen self.old).state) }
         ensures err { OnErr result (self.new ≡ self.old) }
     {
         let reply = self.listeners.listen(session)?;
-        Ok(self.quiet(reply))
+        Ok(Turn::quiet(self.alloc, reply))
     }
 }
 
@@ -189,7 +179,7 @@ impl Duplicate for ValueBox {
 
 /// The text that stood there as a reply, or that there was none.
 fn taken_reply(text: Option<Text>) -> Reply
-    ensures { result ≡ old_text text }
+    ensures { result ≡ scalars.old_text text }
 {
     match text {
         None => Reply::Nothing,
@@ -199,7 +189,7 @@ fn taken_reply(text: Option<Text>) -> Reply
 
 /// The text that stands there as a reply, or that there is none.
 fn text_reply(text: &Option<Text>) -> Result<Reply, NoMemory>
-    ensures { IfOk result (λ reply. reply ≡ old_text text.now) }
+    ensures { IfOk result (λ reply. reply ≡ scalars.old_text text.now) }
 {
     match text {
         None => Ok(Reply::Nothing),

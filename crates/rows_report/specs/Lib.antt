@@ -1,2 +1,2 @@
-pub mod Examples
+pub mod ReportRows
 pub mod Spellings

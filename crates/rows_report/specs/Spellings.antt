@@ -37,7 +37,7 @@ use Rattle.ax_types.specs.declared.entries.Act.{Act}
 use Rattle.ax_types.specs.declared.entries.Act.TheVariants as act
 use Rattle.ax_types.specs.declared.items.Item.{Item}
 use Rattle.ax_types.specs.declared.items.Item.TheVariants as item
-use Rattle.spec_report.specs.Report.{caller_line, feed_line}
+use Rattle.spec_report.specs.Report as reports
 
 -- the operations and queries
 abbrev pub each_call : List WindowCall
@@ -338,8 +338,8 @@ each_act =
     ∷ (1000000000000000, act.Expire 3)
     ∷ []
 
-abbrev pub act_lines : List (List ℕ)
-act_lines =
+abbrev pub act_spellings : List (List ℕ)
+act_spellings =
     codes "1 0 nothing"
     ∷ codes "2 0 open 1 1"
     ∷ codes "3 499 keep 2"
@@ -351,13 +351,13 @@ act_lines =
 -- the lines of callers and feeds
 abbrev pub each_extra : List (List ℕ)
 each_extra =
-    caller_line 1 2 (outcome.Reply 3 reply.Yes)
-    ∷ caller_line 1 3 (outcome.Read level.Lin 3 (Some (2, 1)) (reply.Number (pos 4)))
-    ∷ caller_line 2 4 outcome.Doubt
-    ∷ caller_line 2 5 outcome.Lost
-    ∷ caller_line 16 6 outcome.Unsent
-    ∷ caller_line 16 7 outcome.Unanswered
-    ∷ feed_line 1 2 watch.All 3 7 (event.Message (codes "x") (codes "v"))
+    reports.caller_line 1 2 (outcome.Reply 3 reply.Yes)
+    ∷ reports.caller_line 1 3 (outcome.Read level.Lin 3 (Some (2, 1)) (reply.Number (pos 4)))
+    ∷ reports.caller_line 2 4 outcome.Doubt
+    ∷ reports.caller_line 2 5 outcome.Lost
+    ∷ reports.caller_line 16 6 outcome.Unsent
+    ∷ reports.caller_line 16 7 outcome.Unanswered
+    ∷ reports.feed_line 1 2 watch.All 3 7 (event.Message (codes "x") (codes "v"))
     ∷ []
 
 abbrev pub extra_lines : List (List ℕ)

@@ -5,16 +5,16 @@ use Rattle.std.specs.List.{filter_map, list_any}
 use Rattle.std.proofs.lemmas.List.Folds.{list_any-append}
 use Rattle.ax_types.specs.declared.items.Item.{Item}
 use Rattle.ax_types.specs.declared.scripts.RunEnd.TheVariants as run_end
-use Rattle.spec_book.specs.Book.{Book}
-use Rattle.spec_book.specs.History.{History}
-use Rattle.spec_claims.specs.Transcript.{transcript}
-use Rattle.spec_report.specs.Items.{called_of, outcome_of, is_call, waiting_of, items_text, waiting_text}
-use Rattle.spec_report.specs.Report.{head_text, history_text, end_text}
-use Rattle.spec_single.specs.Form.{Call}
-use Rattle.spec_single.specs.Run.{call_acted, calls_shown, run_items, run_history}
-use Rattle.run_top.specs.Answers.{run_report}
+use Rattle.spec_book.specs.Book as books
+use Rattle.spec_book.specs.History as histories
+use Rattle.spec_claims.specs.Transcript as transcripts
+use Rattle.spec_report.specs.Items as report_items
+use Rattle.spec_report.specs.Report as reports
+use Rattle.spec_single.specs.Form as narrow_form
+use Rattle.spec_single.specs.NarrowRun as narrow_runs
+use Rattle.run_top.specs.Answers as answers
 
-is_itself : (a : ℕ × ℕ) → is_call a a ≡ true
+is_itself : (a : ℕ × ℕ) → report_items.is_call a a ≡ true
 is_itself a = rw (eq-eqb a.0 a.0 refl, eq-eqb a.1 a.1 refl) refl
 
 or_true : (b : Bool) → (b || true) ≡ true
@@ -22,41 +22,41 @@ or_true true = refl
 or_true false = refl
 
 -- a call is among these and itself
-is_there : (front : List (ℕ × ℕ)) (a : ℕ × ℕ) (rest : List (ℕ × ℕ)) → list_any (is_call a) (front ++ a ∷ rest) ≡ true
+is_there : (front : List (ℕ × ℕ)) (a : ℕ × ℕ) (rest : List (ℕ × ℕ)) → list_any (report_items.is_call a) (front ++ a ∷ rest) ≡ true
 is_there front a rest =
-    list_any-append (is_call a) front (a ∷ rest)
-    ∙ ap (λ b. list_any (is_call a) front || (b || list_any (is_call a) rest)) (is_itself a)
-    ∙ or_true (list_any (is_call a) front)
+    list_any-append (report_items.is_call a) front (a ∷ rest)
+    ∙ ap (λ b. list_any (report_items.is_call a) front || (b || list_any (report_items.is_call a) rest)) (is_itself a)
+    ∙ or_true (list_any (report_items.is_call a) front)
 
 -- of some calls none is outside them
-none_outside : (front calls : List (ℕ × ℕ)) → filter_of (λ a. not (list_any (is_call a) (front ++ calls))) calls ≡ []
+none_outside : (front calls : List (ℕ × ℕ)) → filter_of (λ a. not (list_any (report_items.is_call a) (front ++ calls))) calls ≡ []
 none_outside front [] = refl
 none_outside front (a ∷ calls) =
-    ap (λ b. cond (not b) (a ∷ filter_of (λ x. not (list_any (is_call x) (front ++ a ∷ calls))) calls)
-    (filter_of (λ x. not (list_any (is_call x) (front ++ a ∷ calls))) calls)) (is_there front a calls)
-    ∙ subst (λ (all : List (ℕ × ℕ)). filter_of (λ x. not (list_any (is_call x) all)) calls ≡ []) (append_assoc front (a ∷ []) calls)
+    ap (λ b. cond (not b) (a ∷ filter_of (λ x. not (list_any (report_items.is_call x) (front ++ a ∷ calls))) calls)
+    (filter_of (λ x. not (list_any (report_items.is_call x) (front ++ a ∷ calls))) calls)) (is_there front a calls)
+    ∙ subst (λ (all : List (ℕ × ℕ)). filter_of (λ x. not (list_any (report_items.is_call x) all)) calls ≡ []) (append_assoc front (a ∷ []) calls)
     (none_outside (front ++ a ∷ []) calls)
 
 -- the calls of a run are those that have an outcome
-calls_answered : (i : ℕ) (book : Book) (cs : List Call)
-    → filter_map called_of (transcript (calls_shown i book cs)) ≡ filter_map outcome_of (transcript (calls_shown i book cs))
+calls_answered : (i : ℕ) (book : books.Book) (cs : List narrow_form.Call)
+    → filter_map report_items.called_of (transcripts.transcript (narrow_runs.calls_shown i book cs)) ≡ filter_map report_items.outcome_key (transcripts.transcript (narrow_runs.calls_shown i book cs))
 calls_answered i book [] = refl
-calls_answered i book (c ∷ cs) = ap (λ (calls : List (ℕ × ℕ)). (2, i) ∷ calls) (calls_answered (i + 1) (call_acted i book c).state cs)
+calls_answered i book (c ∷ cs) = ap (λ (calls : List (ℕ × ℕ)). (2, i) ∷ calls) (calls_answered (i + 1) (narrow_runs.call_acted i book c).state cs)
 
 -- no call of a narrow run is without an outcome
-pub no_call_waits : (cs : List Call) → waiting_of (run_items cs) ≡ []
+pub no_call_waits : (cs : List narrow_form.Call) → report_items.waiting_of (narrow_runs.run_items cs) ≡ []
 no_call_waits cs =
-    subst (λ (calls : List (ℕ × ℕ)). filter_of (λ a. not (list_any (is_call a) (filter_map outcome_of (run_items cs)))) calls ≡ [])
-    (sym (calls_answered 1 [] cs)) (none_outside [] (filter_map outcome_of (run_items cs)))
+    subst (λ (calls : List (ℕ × ℕ)). filter_of (λ a. not (list_any (report_items.is_call a) (filter_map report_items.outcome_key (narrow_runs.run_items cs)))) calls ≡ [])
+    (sym (calls_answered 1 [] cs)) (none_outside [] (filter_map report_items.outcome_key (narrow_runs.run_items cs)))
 
 -- a text of the items and the history of a run is its report
-pub reported : {A E : Type 0} (bytes : A → List ℕ) (r : Result A E) (items : List Item) (history : History) (cs : List Call)
-    → items ≡ run_items cs → history ≡ run_history cs
-    → IfOk r (λ t. bytes t ≡ head_text ++ (items_text items ++ (history_text history ++ end_text run_end.Done)))
-    → IfOk r (λ t. bytes t ≡ run_report cs)
+pub reported : {A E : Type 0} (bytes : A → List ℕ) (r : Result A E) (items : List Item) (history : histories.History) (cs : List narrow_form.Call)
+    → items ≡ narrow_runs.run_items cs → history ≡ narrow_runs.run_history cs
+    → IfOk r (λ t. bytes t ≡ reports.head_text ++ (report_items.items_text items ++ (reports.history_text history ++ reports.end_text run_end.Done)))
+    → IfOk r (λ t. bytes t ≡ answers.run_report cs)
 reported bytes (Err e) items history cs items_are history_is h = h
 reported bytes (Ok t) items history cs items_are history_is h =
-    h ∙ ap (λ (shown : List Item). head_text ++ (items_text shown ++ (history_text history ++ end_text run_end.Done))) items_are
-    ∙ ap (λ (acts : History). head_text ++ (items_text (run_items cs) ++ (history_text acts ++ end_text run_end.Done))) history_is
-    ∙ ap (λ (waiting : List (ℕ × ℕ)). head_text ++ (items_text (run_items cs)
-    ++ (history_text (run_history cs) ++ (waiting_text waiting ++ end_text run_end.Done)))) (sym (no_call_waits cs))
+    h ∙ ap (λ (shown : List Item). reports.head_text ++ (report_items.items_text shown ++ (reports.history_text history ++ reports.end_text run_end.Done))) items_are
+    ∙ ap (λ (acts : histories.History). reports.head_text ++ (report_items.items_text (narrow_runs.run_items cs) ++ (reports.history_text acts ++ reports.end_text run_end.Done))) history_is
+    ∙ ap (λ (waiting : List (ℕ × ℕ)). reports.head_text ++ (report_items.items_text (narrow_runs.run_items cs)
+    ++ (reports.history_text (narrow_runs.run_history cs) ++ (report_items.waiting_text waiting ++ reports.end_text run_end.Done)))) (sym (no_call_waits cs))

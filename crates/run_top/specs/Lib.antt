@@ -1,5 +1,5 @@
 pub mod Answers
-pub mod Forms
+pub mod NarrowForms
 pub mod Judging
 pub mod Outcomes
 pub mod Runs

@@ -1,8 +1,8 @@
 ghost use Rattle.std.specs.Prelude.{◌≡◌, ◌≤◌, map, vec_len, IfOk};
 ghost use Rattle.ax_types.specs.declared.scripts.Line.TheVariants as line;
 ghost use Rattle.spec_single.specs.Form as spec;
-ghost use Rattle.run_top.specs.Forms.{due_of, followed_of, IsWithin, lines_of, call_count, with_calls};
-ghost use Rattle.run_top.specs.Runs.{call_of};
+ghost use Rattle.run_top.specs.NarrowForms.{due_of, followed_of, IsWithinMost, lines_of, call_count, with_calls};
+ghost use Rattle.run_top.specs.Runs.{narrow_call};
 
 use crate::run::Call;
 use ax_types::{Duplicate, GroupOp, Line, LockOp, MapOp, NoMemory, Op, Step, TopicOp, ValueOp};
@@ -12,7 +12,7 @@ use std::alloc::Global;
 const MOST_CALLS: usize = 1000;
 
 /// The line that the narrow form has next.
-#[derive(Clone, Copy, Debug)]
+#[derive(Clone, Copy)]
 enum Due {
     Elect,
     Open,
@@ -30,7 +30,7 @@ enum Followed {
 }
 
 /// What the lines after the cluster line are.
-#[derive(Debug, PartialEq, Drop)]
+#[derive(Drop)]
 pub enum Form {
     /// The narrow form, with these calls.
     Calls(Vec<Call>),
@@ -57,7 +57,7 @@ fn is_quiet(op: &Op) -> bool
 #[tactic(auto, unfolding(spec_single::specs::Form::most_calls))]
 fn followed_by_step(made: usize, step: &Step) -> Result<Followed, NoMemory>
     ensures followed { IfOk result (λ f. followed_of f ≡ spec.followed spec.ACallOrEnd made (line.Do step.now)) }
-    ensures within { IfOk result (IsWithin made) }
+    ensures within { IfOk result (IsWithinMost made) }
 {
     match step {
         Step::Call { name, op, .. } if is_quiet(op) && made < MOST_CALLS => {
@@ -73,7 +73,7 @@ fn followed_by_step(made: usize, step: &Step) -> Result<Followed, NoMemory>
 /// What a line is where this is due and so many calls were made.
 fn followed_by_line(due: Due, made: usize, line: &Line) -> Result<Followed, NoMemory>
     ensures followed { IfOk result (λ f. followed_of f ≡ spec.followed (due_of due) made line.now) }
-    ensures within { IfOk result (IsWithin made) }
+    ensures within { IfOk result (IsWithinMost made) }
 {
     match (due, line) {
         (Due::Elect, Line::Do(Step::Elect { .. })) => Ok(Followed::Leads(Due::Open)),
@@ -86,7 +86,7 @@ fn followed_by_line(due: Due, made: usize, line: &Line) -> Result<Followed, NoMe
 
 /// What lines that end where this is due are, after these calls.
 fn at_end(due: Due, calls: Vec<Call>) -> Form
-    ensures form { lines_of result ≡ with_calls (map call_of calls.items) (spec.at_end (due_of due)) }
+    ensures form { lines_of result ≡ with_calls (map narrow_call calls.items) (spec.at_end (due_of due)) }
     ensures few { call_count result ≤ vec_len calls }
 {
     match due {

@@ -1,7 +1,7 @@
 ghost use Rattle.std.specs.Prelude.{◌≡◌, ◌≤◌, Ok, IfOk, vec_len};
 ghost use Rattle.ax_types.specs.declared.statuses.Why.TheVariants as why;
-ghost use Rattle.run_top.specs.Answers.{judged, narrow_of, refused, refused_after, is_single as is_single_script};
-ghost use Rattle.run_top.specs.Judging.{Judges, Refuses, at_line};
+ghost use Rattle.run_top.specs.Answers as answers;
+ghost use Rattle.run_top.specs.Judging as judging;
 
 use crate::form::{Form, form_of};
 use crate::lines::{cluster_line, first_lines, line_count};
@@ -23,14 +23,14 @@ fn not_built(line: u64) -> Refused
 
 /// Whether the cluster has one node and one client.
 fn is_single(script: &Script) -> bool
-    ensures { result ≡ is_single_script script.now }
+    ensures { result ≡ answers.is_single script.now }
 {
     script.nodes == 1 && script.clients == 1
 }
 
 /// The calls of a script that was read from these bytes.
 fn narrow_calls(alloc: Global, bytes: &[u8], script: &Script) -> Result<Vec<Call>, Refused>
-    ensures judged { Judges (narrow_of bytes.now script.now) result }
+    ensures judged { judging.Judges (answers.narrow_of bytes.now script.now) result }
     ensures few { IfOk result (λ calls. vec_len calls ≤ 1000) }
 {
     if !is_single(script) {
@@ -51,7 +51,7 @@ fn refused_after_script(
     why: Why,
     before: &Script,
 ) -> Refused
-    ensures { Refuses (refused_after bytes.now (at_line line why) (Ok before.now)) result }
+    ensures { judging.Refuses (answers.refused_after bytes.now (judging.line_refusal line why) (Ok before.now)) result }
 {
     if !is_single(before) {
         return not_built(cluster_line(bytes));
@@ -65,7 +65,7 @@ fn refused_after_script(
 
 /// The first refused line of bytes of which this line is the first outside the grammar or the limits.
 fn first_refused(alloc: Global, bytes: &[u8], line: u64, why: Why) -> Refused
-    ensures { Refuses (refused bytes.now (at_line line why)) result }
+    ensures { judging.Refuses (answers.first_refusal bytes.now (judging.line_refusal line why)) result }
 {
     let before = first_lines(bytes, line.saturating_sub(1));
     match read_script(alloc, before, false) {
@@ -77,7 +77,7 @@ fn first_refused(alloc: Global, bytes: &[u8], line: u64, why: Why) -> Refused
 
 /// The calls of the narrow script that the bytes are, or the first line that is refused and why.
 pub fn judge(alloc: Global, bytes: &[u8]) -> Result<Vec<Call>, Refused>
-    ensures judged { Judges (judged bytes.now) result }
+    ensures judged { judging.Judges (answers.judged bytes.now) result }
     ensures few { IfOk result (λ calls. vec_len calls ≤ 1000) }
 {
     match read_script(alloc, bytes, false) {

@@ -11,7 +11,7 @@ pub fn line_count(bytes: &[u8]) -> u64
 
 /// The number of the first line that is neither empty nor a comment.
 pub fn cluster_line(bytes: &[u8]) -> u64
-    ensures { result ≡ spec.cluster_line bytes.now }
+    ensures { result ≡ spec.cluster_line_number bytes.now }
 {
     let mut number = 1;
     let mut in_comment = false;
@@ -30,7 +30,7 @@ pub fn cluster_line(bytes: &[u8]) -> u64
 
 /// The first `count` lines, each with its newline.
 pub fn first_lines(bytes: &[u8], count: u64) -> &[u8]
-    ensures { result.now ≡ spec.first_lines count bytes.now }
+    ensures { result.now ≡ spec.lines_before count bytes.now }
 {
     let mut left = count;
     'bytes: for (place, byte) in bytes.iter().enumerate() {

@@ -1,22 +1,20 @@
 ghost use Rattle.std.specs.Prelude.{◌≡◌, ◌≤◌, map, string_bytes, IsErrOf, IfSome};
-ghost use Rattle.ax_io.specs.Count.{Rose};
-ghost use Rattle.run_top.specs.Answers.{is_accepted, judged};
-ghost use Rattle.run_top.specs.Outcomes.{Accepts, Takes, Reports, input_bytes};
+ghost use Rattle.ax_io.specs.Count as counts;
+ghost use Rattle.run_top.specs.Answers as answers;
+ghost use Rattle.run_top.specs.Outcomes as outcomes;
 
 use crate::judge::judge;
 use crate::refusals::Refused;
 use crate::report::report_of_calls;
 use ax_io::{Source, read_up_to};
+use ax_types::limits::MAX_SCRIPT;
 use ax_types::{ClientId, Command, NodeId};
 use command_words::{WordsRefused, command_of};
 use std::alloc::Global;
 
-/// The most bytes of an input that are read: one more than those of the longest script.
-const MOST_BYTES: usize = 1_048_577;
-
 /// Accepts the words `run`, and no others yet.
 fn accept(alloc: Global, words: &[String]) -> Result<(), WordsRefused>
-    ensures { Takes (is_accepted (map string_bytes words.now)) result }
+    ensures { outcomes.Takes (answers.is_run_command (map string_bytes words.now)) result }
 {
     match command_of(alloc, words)? {
         Command::Run { json: false } => Ok(()),
@@ -46,14 +44,14 @@ fn only_client() -> ClientId
 
 /// The report that the words and the input ask for.
 pub fn report<I: Source>(alloc: Global, words: &[String], input: &mut I) -> Result<String, Refused>
-    ensures usage { Accepts (is_accepted (map string_bytes words.now)) result }
+    ensures usage { outcomes.Accepts (answers.is_run_command (map string_bytes words.now)) result }
     ensures unread { IsErrOf result Refused.Usage → input.new ≡ input.old }
     ensures count { I.faults input.old ≤ I.faults input.new }
-    ensures read_fault { IsErrOf result Refused.ReadFault → Rose (I.faults input.old) (I.faults input.new) }
-    ensures reports { IfSome (I.content input.old) (λ content. Reports string_bytes (judged (input_bytes content)) result) }
+    ensures read_fault { IsErrOf result Refused.ReadFault → counts.Rose (I.faults input.old) (I.faults input.new) }
+    ensures reports { IfSome (I.content input.old) (λ content. outcomes.Reports string_bytes (answers.judged (outcomes.input_bytes content)) result) }
 {
     accept(alloc, words)?;
-    let bytes = read_up_to(alloc, input, MOST_BYTES)?;
+    let bytes = read_up_to(alloc, input, MAX_SCRIPT + 1)?;
     let calls = judge(alloc, bytes.as_slice())?;
     let report = report_of_calls(alloc, only_node(), only_client(), calls.as_slice())?;
     Ok(report)

@@ -7,7 +7,7 @@ use ax_types::{NoMemory, Status, Why};
 use command_words::WordsRefused;
 
 /// Why nothing is written.
-#[derive(Clone, Copy, Debug, PartialEq, Eq)]
+#[derive(Clone, Copy)]
 pub enum Refused {
     Usage,
     Script { line: u64, why: Why },

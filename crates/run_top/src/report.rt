@@ -2,8 +2,8 @@ ghost use Rattle.std.specs.Prelude.{◌≡◌, ◌≤◌, ◌++◌, map, length,
 ghost use Rattle.ax_types.specs.declared.scripts.RunEnd.TheVariants as run_end;
 ghost use Rattle.spec_report.specs.Items as items_spec;
 ghost use Rattle.spec_report.specs.Report as spec;
-ghost use Rattle.run_top.specs.Answers.{run_report};
-ghost use Rattle.run_top.specs.Runs.{call_of};
+ghost use Rattle.run_top.specs.Answers as answers;
+ghost use Rattle.run_top.specs.Runs as runs;
 
 use crate::run::{Call, Shown, run};
 use ax_types::{ClientId, NoMemory, NodeId, RunEnd};
@@ -31,7 +31,7 @@ pub fn report_of_calls(
     requires one_node { node ≡ 1 }
     requires one_client { client ≡ 1 }
     requires few { length calls.now ≤ 1000 }
-    ensures { IfOk result (λ t. string_bytes t ≡ run_report (map call_of calls.now)) }
+    ensures { IfOk result (λ t. string_bytes t ≡ answers.run_report (map runs.narrow_call calls.now)) }
 {
     text_of(alloc, &run(alloc, node, client, calls)?)
 }

@@ -1,21 +1,21 @@
 ghost use Rattle.std.specs.Prelude.{◌≡◌, ℕ, ◌+◌, ◌<◌, ◌≤◌, ◌++◌, [], ◌∷◌, IfOk, OnOk, OnErr, List as Items, map, length};
-ghost use Rattle.spec_claims.specs.Transcript.{transcript};
-ghost use Rattle.spec_single.specs.Run.{start_shown, call_act, run_items, run_history};
-ghost use Rattle.run_top.specs.Runs.{call_of, call_items};
+ghost use Rattle.spec_claims.specs.Transcript as transcripts;
+ghost use Rattle.spec_single.specs.NarrowRun as narrow_runs;
+ghost use Rattle.run_top.specs.Runs as runs;
 
 use ax_types::{Act, ClientId, Duplicate, Item, Name, NoMemory, NodeId, Op, Reply, WindowCall};
 use res_registry::Book;
 use std::alloc::Global;
 
 /// A call of the narrow form: an operation on the resource of a name.
-#[derive(Debug, PartialEq, Drop)]
+#[derive(Drop)]
 pub struct Call {
     pub name: Name,
     pub op: Op,
 }
 
 /// What a run shows: its items, and its history of times and acts.
-#[derive(Debug, PartialEq, Drop)]
+#[derive(Drop)]
 pub struct Shown {
     pub items: Vec<Item>,
     pub history: Vec<(u64, Act)>,
@@ -30,7 +30,7 @@ const LOG_TIME: u64 = 0;
 /// Shows that the i-th call is made, committed and replied to.
 fn show_call(items: &mut Vec<Item>, call: &Call, number: u64, reply: Reply) -> Result<(), NoMemory>
     requires { number ≤ 1000 }
-    ensures { OnOk result (items.new.items ≡ items.old.items ++ call_items number (call_of call.now) reply) }
+    ensures { OnOk result (items.new.items ≡ items.old.items ++ runs.call_items number (runs.narrow_call call.now) reply) }
 {
     let made = WindowCall::Command {
         name: call.name.copy()?,
@@ -54,7 +54,7 @@ fn show_call(items: &mut Vec<Item>, call: &Call, number: u64, reply: Reply) -> R
 
 /// The act of a call.
 fn act_of(call: &Call) -> Result<Act, NoMemory>
-    ensures { IfOk result (λ act. act ≡ call_act (call_of call.now)) }
+    ensures { IfOk result (λ act. act ≡ narrow_runs.call_act (runs.narrow_call call.now)) }
 {
     Ok(Act::Do {
         session: SESSION,
@@ -67,8 +67,8 @@ fn act_of(call: &Call) -> Result<Act, NoMemory>
 fn show_start(alloc: Global, node: NodeId, client: ClientId) -> Result<Shown, NoMemory>
     requires one_node { node ≡ 1 }
     requires one_client { client ≡ 1 }
-    ensures items { IfOk result (λ s. s.items.items ≡ transcript start_shown) }
-    ensures history { IfOk result (λ s. s.history.items ≡ run_history []) }
+    ensures items { IfOk result (λ s. s.items.items ≡ transcripts.transcript narrow_runs.start_shown) }
+    ensures history { IfOk result (λ s. s.history.items ≡ narrow_runs.run_history []) }
 {
     let items = vec![in alloc;
         Item::Leader { node, term: 1 },
@@ -91,8 +91,8 @@ pub fn run(alloc: Global, node: NodeId, client: ClientId, calls: &[Call]) -> Res
     requires one_node { node ≡ 1 }
     requires one_client { client ≡ 1 }
     requires few { length calls.now ≤ 1000 }
-    ensures items { IfOk result (λ s. s.items.items ≡ run_items (map call_of calls.now)) }
-    ensures history { IfOk result (λ s. s.history.items ≡ run_history (map call_of calls.now)) }
+    ensures items { IfOk result (λ s. s.items.items ≡ narrow_runs.run_items (map runs.narrow_call calls.now)) }
+    ensures history { IfOk result (λ s. s.history.items ≡ narrow_runs.run_history (map runs.narrow_call calls.now)) }
 {
     let mut shown = show_start(alloc, node, client)?;
     let mut book = Book::new(alloc);

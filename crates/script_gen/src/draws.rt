@@ -1,5 +1,5 @@
 ghost use Rattle.std.specs.Prelude.{◌≡◌, ◌<◌, ◌^◌};
-ghost use Rattle.spec_gen.specs.Generator.{drawn, next_state};
+ghost use Rattle.spec_gen.specs.Generator as generators;
 
 /// The row of draws that a number sets off.
 #[derive(Drop)]
@@ -12,8 +12,8 @@ impl Draws {
     /// Draws a number below `limit`.
     pub fn draw(&mut self, limit: u32) -> u32
         requires { 0 < limit }
-        ensures state { self.new.state ≡ next_state self.old.state }
-        ensures drawn { result ≡ drawn self.new.state limit }
+        ensures state { self.new.state ≡ generators.next_state self.old.state }
+        ensures drawn { result ≡ generators.drawn self.new.state limit }
         ensures below { result < limit }
     {
         let next = (1_103_515_245 * u64::from(self.state) + 12_345) % 2_147_483_648;

@@ -1,19 +1,21 @@
 ghost use Rattle.std.specs.Prelude.{◌≡◌, ◌<◌, ◌≤◌, ◌+◌, ◌^◌, ◌∷◌, ◌++◌, [], IfOk, ℕ, length};
 ghost use Rattle.ax_types.specs.declared.scripts.Line.TheVariants as line;
 ghost use Rattle.ax_types.specs.declared.steps.Step.TheVariants as step;
-ghost use Rattle.script_gen.specs.Lines.{with_lines};
-ghost use Rattle.spec_gen.specs.Generator.{first_lines as first_lines_of, gen_script as gen_script_of, generated_lines, numbered, turn_count as turn_count_of, turns};
+ghost use Rattle.script_gen.specs.GeneratedLines as generated_lines;
+ghost use Rattle.ax_types.specs.Places as lists;
+ghost use Rattle.spec_gen.specs.Generator as generators;
 
 use crate::draws::Draws;
 use crate::turns::{client, node, turn};
+use ax_types::limits::GENERATED_TURNS;
 use ax_types::{ClientId, Line, List, NoMemory, NodeId, Script, Step};
 use std::alloc::Global;
 
 fn turn_count() -> u64
-    ensures count { result ≡ turn_count_of }
+    ensures count { result ≡ generators.turn_count }
     ensures few { result ≤ 2000 }
 {
-    2000
+    GENERATED_TURNS
 }
 
 /// Adds a line with its number, which is that of the lines before it and the cluster line.
@@ -42,7 +44,7 @@ fn open(client: ClientId, node: NodeId) -> Line
 /// Adds the lines before the turns: a leader, and a session for each client.
 fn add_first(lines: &mut List<(u64, Line)>) -> Result<(), NoMemory>
     requires { lines.old ≡ [] }
-    ensures { IfOk result (λ _. lines.new ≡ numbered 2 first_lines_of) }
+    ensures { IfOk result (λ _. lines.new ≡ lists.numbered 2 generators.set_up_lines) }
 {
     add(lines, Line::Do(Step::Elect { node: node(1) }))?;
     add(lines, settle())?;
@@ -61,7 +63,7 @@ fn add_turn(
     lines: &mut List<(u64, Line)>,
 ) -> Result<(), NoMemory>
     requires { length lines.old < 2 ^ 31 }
-    ensures added { IfOk result (λ _. (left : ℕ) → with_lines lines.old (turns (left + 1) number draws.old.state) ≡ with_lines lines.new (turns left (number + 1) draws.new.state)) }
+    ensures added { IfOk result (λ _. (left : ℕ) → generated_lines.with_lines lines.old (generators.turns (left + 1) number draws.old.state) ≡ generated_lines.with_lines lines.new (generators.turns left (number + 1) draws.new.state)) }
     ensures few { IfOk result (λ _. length lines.new ≤ length lines.old + 2) }
 {
     let line = turn(alloc, draws)?;
@@ -83,7 +85,7 @@ fn add_turns(
     requires few { count ≤ 2000 }
     requires small { seed < 2 ^ 31 }
     requires short { length lines.old ≤ 2000 }
-    ensures { IfOk result (λ _. lines.new ≡ with_lines lines.old (turns count 1 seed)) }
+    ensures { IfOk result (λ _. lines.new ≡ generated_lines.with_lines lines.old (generators.turns count 1 seed)) }
 {
     let mut draws = Draws { state: seed };
     'turns: for number in 1..count + 1 {
@@ -96,7 +98,7 @@ fn add_turns(
 /// The script of a seed; the cluster line is its first line.
 pub fn gen_script(alloc: Global, seed: u32) -> Result<Script, NoMemory>
     requires { seed < 2 ^ 31 }
-    ensures { IfOk result (λ script. script ≡ gen_script_of seed) }
+    ensures { IfOk result (λ script. script ≡ generators.gen_script seed) }
 {
     let mut lines = List::new(alloc);
     add_first(&mut lines)?;

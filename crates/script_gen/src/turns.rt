@@ -1,9 +1,9 @@
 ghost use Rattle.std.specs.Prelude.{◌≡◌, ◌<◌, ◌≤◌, ◌+◌, ◌∷◌, ◌++◌, IfOk, IsTrue, string_bytes};
 ghost use Rattle.std.specs.Fmt.{decimal};
-ghost use Rattle.ax_types.specs.Forms.{is_name, is_text};
+ghost use Rattle.ax_types.specs.Letters as letters;
 ghost use Rattle.ax_types.specs.declared.scripts.Line.TheVariants as line;
 ghost use Rattle.ax_types.specs.declared.steps.Step.TheVariants as step;
-ghost use Rattle.spec_gen.specs.Generator.{add_line as add_line_of, fresh_line as fresh_line_of, get_line as get_line_of, put_line as put_line_of, turn as turn_by, turn_of as turn_by_cases};
+ghost use Rattle.spec_gen.specs.Generator as generators;
 
 use crate::draws::Draws;
 use ax_types::{
@@ -13,7 +13,7 @@ use ax_types::{
 use std::alloc::Global;
 
 fn name(alloc: Global, text: &str) -> Result<Name, NoMemory>
-    requires { IsTrue (is_name text.now) }
+    requires { IsTrue (letters.is_name text.now) }
     ensures { IfOk result (λ name. name ≡ text.now) }
 {
     match Name::read(alloc, text.as_bytes())? {
@@ -23,7 +23,7 @@ fn name(alloc: Global, text: &str) -> Result<Name, NoMemory>
 }
 
 fn key(alloc: Global, text: &str) -> Result<Key, NoMemory>
-    requires { IsTrue (is_name text.now) }
+    requires { IsTrue (letters.is_name text.now) }
     ensures { IfOk result (λ key. key ≡ text.now) }
 {
     match Key::read(alloc, text.as_bytes())? {
@@ -33,7 +33,7 @@ fn key(alloc: Global, text: &str) -> Result<Key, NoMemory>
 }
 
 fn text(alloc: Global, text: &str) -> Result<Text, NoMemory>
-    requires { IsTrue (is_text text.now) }
+    requires { IsTrue (letters.is_text text.now) }
     ensures { IfOk result (λ value. value ≡ text.now) }
 {
     match Text::read(alloc, text.as_bytes())? {
@@ -86,7 +86,7 @@ pub fn client(number: u8) -> ClientId
 
 /// `call C long n add V`
 fn add_line(alloc: Global, client: ClientId, value: u32) -> Result<Line, NoMemory>
-    ensures { IfOk result (λ line. line ≡ add_line_of client value) }
+    ensures { IfOk result (λ line. line ≡ generators.add_line client value) }
 {
     Ok(Line::Do(Step::Call {
         client,
@@ -99,7 +99,7 @@ fn add_line(alloc: Global, client: ClientId, value: u32) -> Result<Line, NoMemor
 
 /// `call C map m put kI vJ`
 fn put_line(alloc: Global, client: ClientId, key_number: u32, value: u32) -> Result<Line, NoMemory>
-    ensures { IfOk result (λ line. line ≡ put_line_of client key_number value) }
+    ensures { IfOk result (λ line. line ≡ generators.put_line client key_number value) }
 {
     Ok(Line::Do(Step::Call {
         client,
@@ -113,7 +113,7 @@ fn put_line(alloc: Global, client: ClientId, key_number: u32, value: u32) -> Res
 
 /// `query C seq map m get kI`
 fn get_line(alloc: Global, client: ClientId, key_number: u32) -> Result<Line, NoMemory>
-    ensures { IfOk result (λ line. line ≡ get_line_of client key_number) }
+    ensures { IfOk result (λ line. line ≡ generators.get_line client key_number) }
 {
     Ok(Line::Do(Step::Query {
         client,
@@ -127,7 +127,7 @@ fn get_line(alloc: Global, client: ClientId, key_number: u32) -> Result<Line, No
 
 /// `query C lin long n get`
 fn fresh_line(alloc: Global, client: ClientId) -> Result<Line, NoMemory>
-    ensures { IfOk result (λ line. line ≡ fresh_line_of client) }
+    ensures { IfOk result (λ line. line ≡ generators.fresh_line client) }
 {
     Ok(Line::Do(Step::Query {
         client,
@@ -139,7 +139,7 @@ fn fresh_line(alloc: Global, client: ClientId) -> Result<Line, NoMemory>
 
 /// The line of a client's turn, by the number that was drawn for what it does.
 fn turn_of(alloc: Global, client: ClientId, what: u32, draws: &mut Draws) -> Result<Line, NoMemory>
-    ensures { IfOk result (λ line. turn_by_cases client what draws.old.state ≡ record { line = line; state = draws.new.state }) }
+    ensures { IfOk result (λ line. generators.turn_for client what draws.old.state ≡ record { line = line; state = draws.new.state }) }
 {
     if what <= 3 {
         add_line(alloc, client, draws.draw(100))
@@ -160,7 +160,7 @@ fn turn_of(alloc: Global, client: ClientId, what: u32, draws: &mut Draws) -> Res
 
 /// The line of a turn: it draws its client, what it does, and the numbers that it needs.
 pub fn turn(alloc: Global, draws: &mut Draws) -> Result<Line, NoMemory>
-    ensures { IfOk result (λ line. turn_by draws.old.state ≡ record { line = line; state = draws.new.state }) }
+    ensures { IfOk result (λ line. generators.drawn_turn draws.old.state ≡ record { line = line; state = draws.new.state }) }
 {
     let client = client(1 + draws.draw(4) as u8);
     let what = draws.draw(10);

@@ -1,18 +1,19 @@
 ghost use Rattle.std.specs.Prelude.{◌≡◌, IfOk, Some, None, ◌-◌, ◌≤◌, ◌+◌, option_map, slice_index, if◌then◌else◌};
-ghost use Rattle.spec_script.specs.Scripts.{after_caller, after_feed, after_plan, after_race_line, after_set_up_line, after_words, caller_of, cluster_of, count_of, is_cluster_line as is_cluster_line_of, is_planned as is_planned_of, is_set_up as is_set_up_of, line_of, new_draft as new_draft_of, planned as planned_of, sized_draft as sized_draft_of, with_caller, with_plan};
-ghost use Rattle.spec_text.specs.Numbers.{both, number_within};
-ghost use Rattle.spec_text.specs.Operations.{call_of};
-ghost use Rattle.text_words.specs.Behind.{words_behind};
-ghost use Rattle.script_text.specs.Drafts.{Leaves, draft_of};
+ghost use Rattle.spec_script.specs.Scripts as scripts;
+ghost use Rattle.spec_text.specs.Words as text_words;
+ghost use Rattle.spec_text.specs.OperationWords as operation_words;
+ghost use Rattle.text_words.specs.Behind as behind;
+ghost use Rattle.script_text.specs.Drafts as drafts;
 
 use crate::drafts::Draft;
 use crate::steps::{Sizes, client_and_watch, only_node, step};
+use ax_types::limits::{MAX_CALLERS, MAX_CALLS, MAX_CLIENTS, MAX_FEEDS, MAX_NODES, MAX_ROUND};
 use ax_types::{CallerLine, ClientId, Line, List, NoMemory, NodeId, Script, Step, WindowCall};
 use std::alloc::Global;
 use text_words::{call, client, is, node, number, timeout, without_operands};
 
 fn new_draft(alloc: Global, nodes: NodeId, clients: ClientId, timeout: u64) -> Draft
-    ensures { draft_of result ≡ new_draft_of nodes clients timeout }
+    ensures { drafts.draft_of result ≡ scripts.new_draft nodes clients timeout }
 {
     Draft {
         script: Script {
@@ -26,27 +27,27 @@ fn new_draft(alloc: Global, nodes: NodeId, clients: ClientId, timeout: u64) -> D
             last_line: 0,
         },
         callers: 0,
-        totals: [0; 16],
+        totals: [0; MAX_CALLERS],
     }
 }
 
 fn is_cluster_line(a: &[u8], b: &[u8], c: &[u8]) -> bool
-    ensures { result ≡ is_cluster_line_of a.now b.now c.now }
+    ensures { result ≡ scripts.is_cluster_line a.now b.now c.now }
 {
     is(a, "cluster") && (is(b, "clients") && is(c, "timeout"))
 }
 
 fn sized_draft(alloc: Global, n: &[u8], m: &[u8], t: &[u8]) -> Option<Draft>
-    ensures { option_map draft_of result ≡ sized_draft_of n.now m.now t.now }
+    ensures { option_map drafts.draft_of result ≡ scripts.sized_draft n.now m.now t.now }
 {
-    let nodes = node(n, 9)?;
-    let clients = client(m, 16)?;
+    let nodes = node(n, MAX_NODES)?;
+    let clients = client(m, MAX_CLIENTS)?;
     Some(new_draft(alloc, nodes, clients, timeout(t)?))
 }
 
 /// The draft of a cluster line, `cluster N clients M timeout T`; `None` exactly where the words are none.
 pub fn cluster(alloc: Global, words: &[&[u8]]) -> Option<Draft>
-    ensures { option_map draft_of result ≡ cluster_of (words_behind words.now) }
+    ensures { option_map drafts.draft_of result ≡ scripts.cluster_draft (behind.words_behind words.now) }
 {
     match words {
         [a, n, b, m, c, t] => {
@@ -72,7 +73,7 @@ fn sizes(draft: &Draft) -> Sizes
 
 /// A line that `run` takes, behind the cluster line.
 fn line(alloc: Global, words: &[&[u8]], sizes: Sizes) -> Result<Option<Line>, NoMemory>
-    ensures { IfOk result (λ read. read ≡ line_of sizes.nodes sizes.clients (words_behind words.now)) }
+    ensures { IfOk result (λ read. read ≡ scripts.line_of sizes.nodes sizes.clients (behind.words_behind words.now)) }
 {
     let Some((word, rest)) = words.split_first() else {
         return Ok(None);
@@ -88,7 +89,7 @@ fn line(alloc: Global, words: &[&[u8]], sizes: Sizes) -> Result<Option<Line>, No
 
 /// Whether lines have come that only `race` takes.
 fn is_set_up(script: &Script) -> bool
-    ensures { result ≡ is_set_up_of script.now }
+    ensures { result ≡ scripts.is_set_up script.now }
 {
     !(script.callers.is_empty() && (script.plan.is_empty() && script.feeds.is_empty()))
 }
@@ -99,7 +100,7 @@ fn set_up_line(
     words: &[&[u8]],
     draft: &mut Draft,
 ) -> Result<bool, NoMemory>
-    ensures { IfOk result (λ read. Leaves (after_set_up_line number (words_behind words.now) (draft_of draft.old)) read draft.new) }
+    ensures { IfOk result (λ read. drafts.Leaves (scripts.after_set_up_line number (behind.words_behind words.now) (drafts.draft_of draft.old)) read draft.new) }
 {
     if is_set_up(&draft.script) {
         return Ok(false);
@@ -114,15 +115,19 @@ fn set_up_line(
 }
 
 fn caller_number(word: &[u8], draft: &Draft) -> Option<u8>
-    ensures { result ≡ caller_of (draft_of draft.now) word.now }
+    ensures { result ≡ scripts.caller_of (drafts.draft_of draft.now) word.now }
 {
-    Some(number(word, 1, 16.min(u64::from(draft.callers) + 1))? as u8)
+    Some(number(
+        word,
+        1,
+        (MAX_CALLERS as u64).min(u64::from(draft.callers) + 1),
+    )? as u8)
 }
 
 fn call_count(word: &[u8], total: u64) -> Option<u64>
-    ensures { result ≡ number_within 1 (10000 - total) word.now }
+    ensures { result ≡ text_words.number_within 1 (10000 - total) word.now }
 {
-    number(word, 1, 10_000u64.saturating_sub(total))
+    number(word, 1, MAX_CALLS.saturating_sub(total))
 }
 
 fn add_caller(
@@ -135,7 +140,7 @@ fn add_caller(
     requires first { 1 ≤ caller }
     requires last { caller ≤ 16 }
     requires fits { slice_index draft.old.totals (caller - 1) + count ≤ 10000 }
-    ensures { IfOk result (λ _. draft_of draft.new ≡ with_caller number (draft_of draft.old) caller count call) }
+    ensures { IfOk result (λ _. drafts.draft_of draft.new ≡ scripts.with_caller number (drafts.draft_of draft.old) caller count call) }
 {
     draft.script.callers.push(CallerLine {
         line: number,
@@ -158,7 +163,7 @@ fn calls_of_caller(
 ) -> Result<bool, NoMemory>
     requires first { 1 ≤ caller }
     requires last { caller ≤ 16 }
-    ensures { IfOk result (λ read. Leaves (both (with_caller number (draft_of draft.old) caller) (count_of (draft_of draft.old) caller count_word.now) (call_of (words_behind words.now))) read draft.new) }
+    ensures { IfOk result (λ read. drafts.Leaves (text_words.both (scripts.with_caller number (drafts.draft_of draft.old) caller) (scripts.count_of (drafts.draft_of draft.old) caller count_word.now) (operation_words.call_of (behind.words_behind words.now))) read draft.new) }
 {
     let Some(count) = call_count(count_word, draft.totals[caller as usize - 1]) else {
         return Ok(false);
@@ -178,7 +183,7 @@ fn caller_line(
     words: &[&[u8]],
     draft: &mut Draft,
 ) -> Result<bool, NoMemory>
-    ensures { IfOk result (λ read. Leaves (after_caller number (words_behind words.now) (draft_of draft.old)) read draft.new) }
+    ensures { IfOk result (λ read. drafts.Leaves (scripts.after_caller number (behind.words_behind words.now) (drafts.draft_of draft.old)) read draft.new) }
 {
     match words {
         [i, n, rest @ ..] => match caller_number(i, draft) {
@@ -191,7 +196,7 @@ fn caller_line(
 
 /// Whether a step may stand behind `at R`.
 fn is_planned(step: &Step) -> bool
-    ensures { result ≡ is_planned_of step.now }
+    ensures { result ≡ scripts.is_planned step.now }
 {
     match step {
         Step::Elect { .. }
@@ -209,7 +214,7 @@ fn is_planned(step: &Step) -> bool
 }
 
 fn plan_step(draft: &mut Draft, round: u64, step: Step) -> Result<bool, NoMemory>
-    ensures { IfOk result (λ read. Leaves (option_map (with_plan (draft_of draft.old) round) (planned_of step)) read draft.new) }
+    ensures { IfOk result (λ read. drafts.Leaves (option_map (scripts.with_plan (drafts.draft_of draft.old) round) (scripts.planned step)) read draft.new) }
 {
     if is_planned(&step) {
         draft.script.plan.push((round, step))?;
@@ -220,12 +225,12 @@ fn plan_step(draft: &mut Draft, round: u64, step: Step) -> Result<bool, NoMemory
 }
 
 fn plan_line(alloc: Global, words: &[&[u8]], draft: &mut Draft) -> Result<bool, NoMemory>
-    ensures { IfOk result (λ read. Leaves (after_plan (words_behind words.now) (draft_of draft.old)) read draft.new) }
+    ensures { IfOk result (λ read. drafts.Leaves (scripts.after_plan (behind.words_behind words.now) (drafts.draft_of draft.old)) read draft.new) }
 {
     let Some((word, rest)) = words.split_first() else {
         return Ok(false);
     };
-    let Some(round) = number(word, 1, 1_000_000) else {
+    let Some(round) = number(word, 1, MAX_ROUND) else {
         return Ok(false);
     };
     match step(alloc, rest, sizes(draft))? {
@@ -235,9 +240,9 @@ fn plan_line(alloc: Global, words: &[&[u8]], draft: &mut Draft) -> Result<bool, 
 }
 
 fn feed_line(words: &[&[u8]], draft: &mut Draft) -> Result<bool, NoMemory>
-    ensures { IfOk result (λ read. Leaves (after_feed (words_behind words.now) (draft_of draft.old)) read draft.new) }
+    ensures { IfOk result (λ read. drafts.Leaves (scripts.after_feed (behind.words_behind words.now) (drafts.draft_of draft.old)) read draft.new) }
 {
-    if draft.script.feeds.len() >= 16 {
+    if draft.script.feeds.len() >= MAX_FEEDS {
         return Ok(false);
     }
     match client_and_watch(words, sizes(draft)) {
@@ -255,7 +260,7 @@ fn race_line(
     words: &[&[u8]],
     draft: &mut Draft,
 ) -> Result<bool, NoMemory>
-    ensures { IfOk result (λ read. Leaves (after_race_line number (words_behind words.now) (draft_of draft.old)) read draft.new) }
+    ensures { IfOk result (λ read. drafts.Leaves (scripts.after_race_line number (behind.words_behind words.now) (drafts.draft_of draft.old)) read draft.new) }
 {
     let Some((word, rest)) = words.split_first() else {
         return Ok(false);
@@ -278,7 +283,7 @@ fn later_line(
     words: &[&[u8]],
     draft: &mut Draft,
 ) -> Result<bool, NoMemory>
-    ensures { IfOk result (λ read. Leaves (if race then after_race_line number (words_behind words.now) (draft_of draft.old) else after_set_up_line number (words_behind words.now) (draft_of draft.old)) read draft.new) }
+    ensures { IfOk result (λ read. drafts.Leaves (if race then scripts.after_race_line number (behind.words_behind words.now) (drafts.draft_of draft.old) else scripts.after_set_up_line number (behind.words_behind words.now) (drafts.draft_of draft.old)) read draft.new) }
 {
     if race {
         race_line(alloc, number, words, draft)
@@ -295,7 +300,7 @@ pub fn words_line(
     words: &[&[u8]],
     draft: &mut Draft,
 ) -> Result<bool, NoMemory>
-    ensures { IfOk result (λ read. Leaves (after_words race number (words_behind words.now) (draft_of draft.old)) read draft.new) }
+    ensures { IfOk result (λ read. drafts.Leaves (scripts.after_words race number (behind.words_behind words.now) (drafts.draft_of draft.old)) read draft.new) }
 {
     if later_line(alloc, race, number, words, draft)? {
         draft.script.last_line = number;

@@ -1,24 +1,19 @@
 ghost use Rattle.std.specs.Prelude.{◌≡◌, IfOk, Some, None, ◌∷◌, ◌==◌, ◌≤◌, ◌+◌, ◌^◌, length};
 ghost use Rattle.std.specs.List.{position, slice_split};
-ghost use Rattle.spec_text.specs.Numbers.{words_of};
-ghost use Rattle.spec_script.specs.Scripts.{after_first, after_later, holds_last_byte, in_limits as in_limits_of, is_empty as is_empty_of, is_skipped as is_skipped_of, judged_bytes, place_of as place_of_line, read_lines, read_script_of};
-ghost use Rattle.text_words.specs.Behind.{words_behind};
-ghost use Rattle.script_text.specs.Answers.{Answers, LaterAnswers, LineAnswers, lines_in, place_behind, refusal_at};
-ghost use Rattle.script_text.specs.Drafts.{draft_of};
+ghost use Rattle.spec_text.specs.Words as words;
+ghost use Rattle.spec_script.specs.Scripts as scripts;
+ghost use Rattle.text_words.specs.Behind as behind;
+ghost use Rattle.script_text.specs.ReadScripts as read_scripts;
+ghost use Rattle.script_text.specs.Drafts as drafts;
 
 use crate::drafts::Draft;
 use crate::lines::{cluster, words_line};
+use ax_types::limits::{MAX_LINE, MAX_SCRIPT};
 use ax_types::{NoMemory, Script, Why};
 use std::alloc::{AllocError, Global};
 
-/// The bytes of the longest script.
-const MAX_SCRIPT: usize = 1_048_576;
-
-/// The bytes of the longest line, without its newline.
-const MAX_LINE: usize = 512;
-
 /// Why bytes are no script.
-#[derive(Clone, Copy, Debug, PartialEq, Eq)]
+#[derive(Clone, Copy)]
 pub enum ScriptRefused {
     /// The first line that is refused, counted from 1, and the first reason for it.
     Refused { line: u64, why: Why },
@@ -54,21 +49,21 @@ struct Place {
 }
 
 fn cut<'a>(alloc: Global, line: &'a [u8]) -> Result<Vec<&'a [u8]>, AllocError>
-    ensures { IfOk result (λ v. words_behind v.items ≡ words_of line.now) }
+    ensures { IfOk result (λ v. behind.words_behind v.items ≡ words.words_of line.now) }
 {
     line.split(|b| *b == b' ').collect(alloc)
 }
 
 /// The words of a line.
 fn words<'a>(alloc: Global, line: &'a [u8]) -> Result<Vec<&'a [u8]>, NoMemory>
-    ensures { IfOk result (λ v. words_behind v.items ≡ words_of line.now) }
+    ensures { IfOk result (λ v. behind.words_behind v.items ≡ words.words_of line.now) }
 {
     Ok(cut(alloc, line)?)
 }
 
 /// Whether a line does nothing: it is empty or begins with `#`.
 fn is_skipped(line: &[u8]) -> bool
-    ensures { result ≡ is_skipped_of line.now }
+    ensures { result ≡ scripts.is_skipped line.now }
 {
     match line {
         [] => true,
@@ -78,7 +73,7 @@ fn is_skipped(line: &[u8]) -> bool
 
 /// The limit that a line passes.
 fn in_limits(is_past: bool, line: &[u8]) -> Option<Why>
-    ensures { result ≡ in_limits_of is_past line.now }
+    ensures { result ≡ scripts.in_limits is_past line.now }
 {
     if MAX_LINE < line.len() {
         Some(Why::LineTooLong)
@@ -91,7 +86,7 @@ fn in_limits(is_past: bool, line: &[u8]) -> Option<Why>
 
 /// Reads a line where the cluster line is due.
 fn first_line(alloc: Global, place: Place, line: &[u8]) -> Result<Option<Draft>, LineRefused>
-    ensures { LineAnswers (after_first (place_behind place) line.now) result }
+    ensures { read_scripts.LineAnswers (scripts.after_first (read_scripts.place_behind place) line.now) result }
 {
     if is_skipped(line) {
         if place.is_last {
@@ -121,7 +116,7 @@ fn later_line(
     line: &[u8],
     draft: &mut Draft,
 ) -> Result<(), LineRefused>
-    ensures { LaterAnswers (after_later (place_behind place) line.now (draft_of draft.old)) result draft.new }
+    ensures { read_scripts.LaterAnswers (scripts.after_later (read_scripts.place_behind place) line.now (drafts.draft_of draft.old)) result draft.new }
 {
     if let Some(why) = in_limits(place.is_past, line) {
         return Err(LineRefused::Why(why));
@@ -142,7 +137,7 @@ fn later_line(
 
 /// The bytes that are judged: all, or those up to the one after the longest script.
 fn judged(bytes: &[u8]) -> &[u8]
-    ensures judged { result.now ≡ judged_bytes bytes.now }
+    ensures judged { result.now ≡ scripts.judged_bytes bytes.now }
     ensures few { length result.now ≤ 1048577 }
 {
     if bytes.len() > MAX_SCRIPT {
@@ -161,7 +156,7 @@ fn newline(bytes: &[u8]) -> Option<usize>
 
 /// The first line, and what stands behind the newline that ends it.
 fn cut_line(bytes: &[u8]) -> (&[u8], Option<&[u8]>)
-    ensures { slice_split (λ b. b == 10) bytes.now ≡ result.0.now ∷ lines_in result.1 }
+    ensures { slice_split (λ b. b == 10) bytes.now ≡ result.0.now ∷ read_scripts.lines_in result.1 }
 {
     match newline(bytes) {
         Some(at) => (&bytes[..at], Some(&bytes[at + 1..])),
@@ -171,7 +166,7 @@ fn cut_line(bytes: &[u8]) -> (&[u8], Option<&[u8]>)
 
 /// Where a line with this number stands, with these bytes behind the newline that ends it.
 fn place_of(race: bool, is_long: bool, number: u64, more: Option<&[u8]>) -> Place
-    ensures { place_behind result ≡ place_of_line race is_long number (lines_in more.entry) }
+    ensures { read_scripts.place_behind result ≡ scripts.position_of race is_long number (read_scripts.lines_in more.entry) }
 {
     Place {
         race,
@@ -183,14 +178,14 @@ fn place_of(race: bool, is_long: bool, number: u64, more: Option<&[u8]>) -> Plac
 
 /// Whether no line comes any more.
 fn is_last_line(more: Option<&[u8]>) -> bool
-    ensures { result ≡ is_empty_of (lines_in more.entry) }
+    ensures { result ≡ scripts.is_empty (read_scripts.lines_in more.entry) }
 {
     more.is_none()
 }
 
 /// Whether no byte comes any more.
 fn ends(more: Option<&[u8]>) -> bool
-    ensures { result ≡ holds_last_byte (lines_in more.entry) }
+    ensures { result ≡ scripts.holds_last_byte (read_scripts.lines_in more.entry) }
 {
     match more {
         Some(bytes) => bytes.is_empty(),
@@ -199,7 +194,7 @@ fn ends(more: Option<&[u8]>) -> bool
 }
 
 fn refused_at(line: u64, refused: LineRefused) -> ScriptRefused
-    ensures { result ≡ refusal_at line refused }
+    ensures { result ≡ read_scripts.refusal_at line refused }
 {
     match refused {
         LineRefused::Why(why) => ScriptRefused::Refused { line, why },
@@ -216,8 +211,8 @@ fn later_lines(
     mut rest: Option<&[u8]>,
     mut number: u64,
 ) -> Result<Script, ScriptRefused>
-    requires { number + length (lines_in rest) ≤ 2 ^ 62 }
-    ensures { Answers (read_lines race is_long (lines_in rest.entry) number (Some (draft_of draft))) result }
+    requires { number + length (read_scripts.lines_in rest) ≤ 2 ^ 62 }
+    ensures { read_scripts.ReadsAs (scripts.read_lines race is_long (read_scripts.lines_in rest.entry) number (Some (drafts.draft_of draft))) result }
 {
     'lines: while let Some(bytes) = rest {
         let (line, more) = cut_line(bytes);
@@ -239,7 +234,7 @@ fn all_lines(
     bytes: &[u8],
 ) -> Result<Script, ScriptRefused>
     requires { 1 + length (slice_split (λ b. b == 10) bytes.now) ≤ 2 ^ 62 }
-    ensures { Answers (read_lines race is_long (slice_split (λ b. b == 10) bytes.now) 1 None) result }
+    ensures { read_scripts.ReadsAs (scripts.read_lines race is_long (slice_split (λ b. b == 10) bytes.now) 1 None) result }
 {
     let mut rest = bytes;
     let mut number: u64 = 1;
@@ -262,7 +257,7 @@ fn all_lines(
 /// Reads a script, of `run`, or of `race`, which has lines of its own. It is `Ok` exactly where the bytes are of the grammar, with
 /// that script. Else the first refused line comes with the first of its reasons `Cluster`, `LineTooLong`, `TooLong` and `Grammar`.
 pub fn read_script(alloc: Global, bytes: &[u8], race: bool) -> Result<Script, ScriptRefused>
-    ensures { Answers (read_script_of race bytes.now) result }
+    ensures { read_scripts.ReadsAs (scripts.read_script_of race bytes.now) result }
 {
     all_lines(alloc, race, bytes.len() > MAX_SCRIPT, judged(bytes))
 }

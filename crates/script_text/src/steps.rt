@@ -1,7 +1,7 @@
 ghost use Rattle.std.specs.Prelude.{◌≡◌, ◌≤◌, IfOk, ◌∷◌, [], Some, None};
-ghost use Rattle.spec_text.specs.Numbers.{both};
-ghost use Rattle.spec_script.specs.Steps.{call_step_of, client_and_node as client_and_node_of, client_and_watch as client_and_watch_of, client_step_of, end_of, is_link as is_link_of, link_between, link_of, made_call as made_call_of, network_step_of, node_and_time as node_and_time_of, node_step_of, number_and_bytes as number_and_bytes_of, only_client as only_client_of, only_node as only_node_of, only_number as only_number_of, step_of, watch_kind_of};
-ghost use Rattle.text_words.specs.Behind.{words_behind};
+ghost use Rattle.spec_text.specs.Words as text_words;
+ghost use Rattle.spec_script.specs.StepLines as step_lines;
+ghost use Rattle.text_words.specs.Behind as behind;
 
 use ax_types::{ClientId, End, NoMemory, NodeId, Step, WatchKind, WindowCall};
 use std::alloc::Global;
@@ -19,7 +19,7 @@ pub struct Sizes {
 }
 
 pub fn only_node(words: &[&[u8]], sizes: Sizes) -> Option<NodeId>
-    ensures { result ≡ only_node_of sizes.nodes (words_behind words.now) }
+    ensures { result ≡ step_lines.only_node sizes.nodes (behind.words_behind words.now) }
 {
     match words {
         [k] => node(k, sizes.nodes),
@@ -28,7 +28,7 @@ pub fn only_node(words: &[&[u8]], sizes: Sizes) -> Option<NodeId>
 }
 
 fn node_and_time(words: &[&[u8]], sizes: Sizes) -> Option<(NodeId, u64)>
-    ensures { result ≡ node_and_time_of sizes.nodes (words_behind words.now) }
+    ensures { result ≡ step_lines.node_and_time sizes.nodes (behind.words_behind words.now) }
 {
     match words {
         [k, t] => Some((node(k, sizes.nodes)?, time(t)?)),
@@ -37,7 +37,7 @@ fn node_and_time(words: &[&[u8]], sizes: Sizes) -> Option<(NodeId, u64)>
 }
 
 fn only_number(words: &[&[u8]]) -> Option<u64>
-    ensures { result ≡ only_number_of (words_behind words.now) }
+    ensures { result ≡ step_lines.only_number (behind.words_behind words.now) }
 {
     match words {
         [p] => packet_number(p),
@@ -46,7 +46,7 @@ fn only_number(words: &[&[u8]]) -> Option<u64>
 }
 
 fn number_and_bytes(words: &[&[u8]]) -> Option<(u64, u64)>
-    ensures { result ≡ number_and_bytes_of (words_behind words.now) }
+    ensures { result ≡ step_lines.number_and_bytes (behind.words_behind words.now) }
 {
     match words {
         [p, b] => Some((packet_number(p)?, packet_number(b)?)),
@@ -55,7 +55,7 @@ fn number_and_bytes(words: &[&[u8]]) -> Option<(u64, u64)>
 }
 
 fn only_client(words: &[&[u8]], sizes: Sizes) -> Option<ClientId>
-    ensures { result ≡ only_client_of sizes.clients (words_behind words.now) }
+    ensures { result ≡ step_lines.only_client sizes.clients (behind.words_behind words.now) }
 {
     match words {
         [c] => client(c, sizes.clients),
@@ -64,7 +64,7 @@ fn only_client(words: &[&[u8]], sizes: Sizes) -> Option<ClientId>
 }
 
 fn client_and_node(words: &[&[u8]], sizes: Sizes) -> Option<(ClientId, NodeId)>
-    ensures { result ≡ client_and_node_of sizes.nodes sizes.clients (words_behind words.now) }
+    ensures { result ≡ step_lines.client_and_node sizes.nodes sizes.clients (behind.words_behind words.now) }
 {
     match words {
         [c, k] => Some((client(c, sizes.clients)?, node(k, sizes.nodes)?)),
@@ -73,7 +73,7 @@ fn client_and_node(words: &[&[u8]], sizes: Sizes) -> Option<(ClientId, NodeId)>
 }
 
 fn watch_kind(word: &[u8]) -> Option<WatchKind>
-    ensures { result ≡ watch_kind_of word.now }
+    ensures { result ≡ step_lines.watch_kind_of word.now }
 {
     if is(word, "all") {
         Some(WatchKind::All)
@@ -87,7 +87,7 @@ fn watch_kind(word: &[u8]) -> Option<WatchKind>
 }
 
 pub fn client_and_watch(words: &[&[u8]], sizes: Sizes) -> Option<(ClientId, WatchKind)>
-    ensures { result ≡ client_and_watch_of sizes.clients (words_behind words.now) }
+    ensures { result ≡ step_lines.client_and_watch sizes.clients (behind.words_behind words.now) }
 {
     match words {
         [c, kind] => Some((client(c, sizes.clients)?, watch_kind(kind)?)),
@@ -97,7 +97,7 @@ pub fn client_and_watch(words: &[&[u8]], sizes: Sizes) -> Option<(ClientId, Watc
 
 /// An end of a link, `nK` or `cC`.
 fn end(word: &[u8], sizes: Sizes) -> Option<End>
-    ensures { result ≡ end_of sizes.nodes sizes.clients word.now }
+    ensures { result ≡ step_lines.end_of sizes.nodes sizes.clients word.now }
 {
     let (first, rest) = word.split_first()?;
     if *first == b'n' {
@@ -111,7 +111,7 @@ fn end(word: &[u8], sizes: Sizes) -> Option<End>
 
 /// Whether the ends differ and not both are clients.
 fn is_link(one: &End, other: &End) -> bool
-    ensures { result ≡ is_link_of one.now other.now }
+    ensures { result ≡ step_lines.is_link one.now other.now }
 {
     match one {
         End::Node(a) => match other {
@@ -126,7 +126,7 @@ fn is_link(one: &End, other: &End) -> bool
 }
 
 fn link_of_ends(one: End, other: End) -> Option<(End, End)>
-    ensures { result ≡ link_between one other }
+    ensures { result ≡ step_lines.link_between one other }
 {
     if is_link(&one, &other) {
         Some((one, other))
@@ -136,7 +136,7 @@ fn link_of_ends(one: End, other: End) -> Option<(End, End)>
 }
 
 fn link(words: &[&[u8]], sizes: Sizes) -> Option<(End, End)>
-    ensures { result ≡ link_of sizes.nodes sizes.clients (words_behind words.now) }
+    ensures { result ≡ step_lines.link_of sizes.nodes sizes.clients (behind.words_behind words.now) }
 {
     match words {
         [e, f] => link_of_ends(end(e, sizes)?, end(f, sizes)?),
@@ -145,7 +145,7 @@ fn link(words: &[&[u8]], sizes: Sizes) -> Option<(End, End)>
 }
 
 fn node_step(words: &[&[u8]], sizes: Sizes) -> Option<Step>
-    ensures { result ≡ node_step_of sizes.nodes (words_behind words.now) }
+    ensures { result ≡ step_lines.node_step_of sizes.nodes (behind.words_behind words.now) }
 {
     let (word, rest) = words.split_first()?;
     if is(word, "elect") {
@@ -166,7 +166,7 @@ fn node_step(words: &[&[u8]], sizes: Sizes) -> Option<Step>
 }
 
 fn network_step(words: &[&[u8]], sizes: Sizes) -> Option<Step>
-    ensures { result ≡ network_step_of sizes.nodes sizes.clients (words_behind words.now) }
+    ensures { result ≡ step_lines.network_step_of sizes.nodes sizes.clients (behind.words_behind words.now) }
 {
     let (word, rest) = words.split_first()?;
     if is(word, "cut") {
@@ -187,7 +187,7 @@ fn network_step(words: &[&[u8]], sizes: Sizes) -> Option<Step>
 }
 
 fn client_step(words: &[&[u8]], sizes: Sizes) -> Option<Step>
-    ensures { result ≡ client_step_of sizes.nodes sizes.clients (words_behind words.now) }
+    ensures { result ≡ step_lines.client_step_of sizes.nodes sizes.clients (behind.words_behind words.now) }
 {
     let (word, rest) = words.split_first()?;
     if is(word, "open") {
@@ -209,7 +209,7 @@ fn client_step(words: &[&[u8]], sizes: Sizes) -> Option<Step>
 
 /// A client's call as a step.
 fn made_call(client: ClientId, call: WindowCall) -> Step
-    ensures { result ≡ made_call_of client call }
+    ensures { result ≡ step_lines.made_call client call }
 {
     match call {
         WindowCall::Command { name, op } => Step::Call { client, name, op },
@@ -223,13 +223,13 @@ fn made_call(client: ClientId, call: WindowCall) -> Step
 }
 
 fn called(client: Option<ClientId>, call: Option<WindowCall>) -> Option<Step>
-    ensures { result ≡ both made_call_of client call }
+    ensures { result ≡ text_words.both step_lines.made_call client call }
 {
     Some(made_call(client?, call?))
 }
 
 fn call_step(alloc: Global, words: &[&[u8]], sizes: Sizes) -> Result<Option<Step>, NoMemory>
-    ensures { IfOk result (λ read. read ≡ call_step_of sizes.clients (words_behind words.now)) }
+    ensures { IfOk result (λ read. read ≡ step_lines.call_step_of sizes.clients (behind.words_behind words.now)) }
 {
     match words {
         [word, c, rest @ ..] => {
@@ -247,7 +247,7 @@ fn call_step(alloc: Global, words: &[&[u8]], sizes: Sizes) -> Result<Option<Step
 
 /// The step of these words, in a cluster of these sizes; `None` exactly where they are no step.
 pub fn step(alloc: Global, words: &[&[u8]], sizes: Sizes) -> Result<Option<Step>, NoMemory>
-    ensures { IfOk result (λ read. read ≡ step_of sizes.nodes sizes.clients (words_behind words.now)) }
+    ensures { IfOk result (λ read. read ≡ step_lines.step_of sizes.nodes sizes.clients (behind.words_behind words.now)) }
 {
     if let Some(step) = node_step(words, sizes) {
         return Ok(Some(step));

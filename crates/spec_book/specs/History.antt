@@ -1,39 +1,39 @@
 -- Histories: one list of acts with their log times, place 1 first, and the fold over it.
 use Rattle.std.specs.Prelude.{ℕ, zero, suc, ◌-◌, ◌+◌, ◌≤◌, ◌≡◌, Bool, true, false, not, ◌&&◌, nat_le, nat_eq, if◌then◌else◌, IsTrue, List, [], ◌∷◌, ◌++◌, length, take, Option, Some, None, map, filter, option_map}
 use Rattle.std.specs.List.{list_any}
-use Rattle.ax_types.specs.Places.{at_place}
+use Rattle.ax_types.specs.Places as lists
 use Rattle.ax_types.specs.declared.ops.Op.{Op}
 use Rattle.ax_types.specs.declared.entries.Act.{Act}
 use Rattle.ax_types.specs.declared.entries.Act.TheVariants as act
 use Rattle.ax_types.specs.declared.replies.Reply.{Reply}
 use Rattle.ax_types.specs.declared.replies.Event.{Event}
 use Rattle.ax_types.specs.declared.replies.Turn.{Turn}
-use Rattle.spec_book.specs.Book.{Book, acted}
+use Rattle.spec_book.specs.Book as books
 
 -- the acts by place, each with its log time
 abbrev pub History : Type 0
 History = List (ℕ × Act)
 
 -- the book after some more acts, of which the first has the place after `done`
-abbrev pub book_after : ℕ → Book → History → Book
+abbrev pub book_after : ℕ → books.Book → History → books.Book
 book_after done book [] = book
-book_after done book (a ∷ acts) = book_after (done + 1) (acted book (done + 1) a.0 a.1).state acts
+book_after done book (a ∷ acts) = book_after (done + 1) (books.acted book (done + 1) a.0 a.1).state acts
 
 -- the book after the first p acts
-abbrev pub book_at : History → ℕ → Book
+abbrev pub book_at : History → ℕ → books.Book
 book_at h p = book_after 0 [] (take p h)
 
 -- what the act at a place gives
 abbrev pub turn_there : History → ℕ → Option (ℕ × Act) → Option Turn
 turn_there h p None = None
-turn_there h p (Some a) = Some (acted (book_at h (p - 1)) p a.0 a.1).turn
+turn_there h p (Some a) = Some (books.acted (book_at h (p - 1)) p a.0 a.1).turn
 
 abbrev pub turn_of : History → ℕ → Option Turn
-turn_of h p = turn_there h p (at_place h p)
+turn_of h p = turn_there h p (lists.at_place h p)
 
 -- the reply of the act at a place
-abbrev pub reply_at : History → ℕ → Option Reply
-reply_at h p = option_map (λ t. t.reply) (turn_of h p)
+abbrev pub history_reply : History → ℕ → Option Reply
+history_reply h p = option_map (λ t. t.reply) (turn_of h p)
 
 -- the events of one session among what is told
 abbrev pub events_for : ℕ → List (ℕ × Event) → List Event
@@ -64,7 +64,7 @@ ends s _ = false
 
 -- whether the session is live after place p: it was opened, and no act up to p ended it
 abbrev pub is_live : History → ℕ → ℕ → Bool
-is_live h p s = is_open (at_place h s) && nat_le s p && not (list_any (λ a. ends s a.1) (take p h))
+is_live h p s = is_open (lists.at_place h s) && nat_le s p && not (list_any (λ a. ends s a.1) (take p h))
 
 -- the session that an act is of, but for an opening
 abbrev pub session_of : Act → Option ℕ
@@ -103,9 +103,9 @@ IsOfLive h p (Some s) = IsTrue (is_live h (p - 1) s)
 -- a lawful history: times never fall; what is done, kept, closed or expired is of a live session; and a session expires
 -- only where its last sign is at least the timeout ago
 pub record IsLawful (timeout : ℕ) (h : History) : Type 0 where
-  pub times : (p : ℕ) (a b : ℕ × Act) → at_place h p ≡ Some a → at_place h (suc p) ≡ Some b → a.0 ≤ b.0
-  pub live : (p : ℕ) (a : ℕ × Act) → at_place h p ≡ Some a → IsOfLive h p (session_of a.1)
-  pub due : (p : ℕ) (a : ℕ × Act) → at_place h p ≡ Some a → IsDue h timeout p a
+  pub times : (p : ℕ) (a b : ℕ × Act) → lists.at_place h p ≡ Some a → lists.at_place h (suc p) ≡ Some b → a.0 ≤ b.0
+  pub live : (p : ℕ) (a : ℕ × Act) → lists.at_place h p ≡ Some a → IsOfLive h p (session_of a.1)
+  pub due : (p : ℕ) (a : ℕ × Act) → lists.at_place h p ≡ Some a → IsDue h timeout p a
 
 -- what a session is told at one place, with the place before at which it was told anything, or 0
 pub record Heard : Type 0 where

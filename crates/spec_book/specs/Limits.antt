@@ -1,9 +1,10 @@
--- The limits of a book. Each holds 1,024: names, entries of a map, texts of a set or queue, pairs of a multimap,
+-- The limits of a book. Each holds as many: names, entries of a map, texts of a set or queue, pairs of a multimap,
 -- members of a group, sessions that wait for a lock, and sessions that listen.
 use Rattle.std.specs.Prelude.{ℕ, Bool, nat_le, List, length}
+use Rattle.ax_types.specs.declared.limits.TheConstants.{ROOM}
 
 abbrev pub room : ℕ
-room = 1024
+room = ROOM
 
 -- whether a list has no room for one more
 abbrev pub is_full : {T : Type 0} → List T → Bool

@@ -1,6 +1,7 @@
 -- Events come in the order of their places, once, and before each response that names them; watches show what they hold.
 use Rattle.std.specs.Prelude.{ℕ, ◌≡◌, ◌≤◌, Bool, true, false, not, nat_eq, if◌then◌else◌, List, [], ◌∷◌, ◌++◌, map, filter, flat_map}
 use Rattle.std.specs.List.{AllByRecursion, list_any}
+use Rattle.ax_types.specs.ItemTests as item_tests
 use Rattle.ax_types.specs.declared.replies.Event.{Event}
 use Rattle.ax_types.specs.declared.replies.Event.TheVariants as event
 use Rattle.ax_types.specs.declared.steps.Step.{Step}
@@ -9,33 +10,33 @@ use Rattle.ax_types.specs.declared.steps.WatchKind.{WatchKind}
 use Rattle.ax_types.specs.declared.steps.WatchKind.TheVariants as watch
 use Rattle.ax_types.specs.declared.items.Item.{Item}
 use Rattle.ax_types.specs.declared.items.Item.TheVariants as item
-use Rattle.spec_book.specs.History.{History, Heard, events}
-use Rattle.spec_claims.specs.Transcript.{Shown, EachItem, StandsIn}
-use Rattle.spec_claims.specs.Once.{Begins}
+use Rattle.spec_book.specs.History as histories
+use Rattle.spec_claims.specs.Transcript as transcripts
+use Rattle.spec_claims.specs.Once as claims_once
 
 -- the batch of events that an item says a session heard
-abbrev pub heard_by : ℕ → Item → List Heard
+abbrev pub heard_by : ℕ → Item → List histories.Heard
 heard_by s (item.Event t p prev es) = if nat_eq s t then (record { place = p; prev = prev; events = es }) ∷ [] else []
 heard_by s x = []
 
 -- what a session heard, in order
-abbrev pub heard : ℕ → List Item → List Heard
+abbrev pub heard : ℕ → List Item → List histories.Heard
 heard s items = flat_map (heard_by s) items
 
 -- each batch of the session up to a place stands above
-abbrev pub AreHeardUpto : History → ℕ → ℕ → List Item → Type 0
+abbrev pub AreHeardUpto : histories.History → ℕ → ℕ → List Item → Type 0
 AreHeardUpto h s p above =
-    AllByRecursion (λ e. e.place ≤ p → StandsIn (item.Event s e.place e.prev e.events) above) (events h s)
+    AllByRecursion (λ e. e.place ≤ p → transcripts.StandsIn (item.Event s e.place e.prev e.events) above) (histories.events h s)
 
-abbrev pub IsAfterEvents : History → ℕ → List Item → Item → Type 0
+abbrev pub IsAfterEvents : histories.History → ℕ → List Item → Item → Type 0
 IsAfterEvents h s above (item.Reply t n p r) = s ≡ t → AreHeardUpto h s p above
 IsAfterEvents h s above (item.Read t n l p reach r) = s ≡ t → AreHeardUpto h s p above
 IsAfterEvents h s above x = Unit {0}
 
 -- what a session heard begins what it is told, and a response names no event that was not heard above it
-pub record IsHeard (items : List Item) (h : History) (s : ℕ) : Type 0 where
-  pub in_order : Begins (heard s items) (events h s)
-  pub before_responses : EachItem (IsAfterEvents h s) items
+pub record IsHeard (items : List Item) (h : histories.History) (s : ℕ) : Type 0 where
+  pub in_order : claims_once.Begins (heard s items) (histories.events h s)
+  pub before_responses : transcripts.EachItem (IsAfterEvents h s) items
 
 -- which events a kind of watch holds
 abbrev pub is_change : Event → Bool
@@ -83,22 +84,18 @@ is_watched x = false
 abbrev pub with_watched : List (ℕ × WatchKind) → List (ℕ × ℕ) → List Item → List Item
 with_watched watches opened items = flat_map (λ x. x ∷ watched_below watches opened x) items
 
-abbrev pub is_skip : Item → Bool
-is_skip (item.Skip reason) = true
-is_skip x = false
-
 -- the watches after a step: one more, if the step sets one and was not skipped
 abbrev pub watches_after : List (ℕ × WatchKind) → Step → List Item → List (ℕ × WatchKind)
-watches_after watches (step.Watch c kind) items = if list_any is_skip items then watches else watches ++ (c, kind) ∷ []
+watches_after watches (step.Watch c kind) items = if list_any item_tests.is_skip items then watches else watches ++ (c, kind) ∷ []
 watches_after watches st items = watches
 
 -- in each step the watched items are those that the watches show, each directly below its event
-abbrev pub AreWatchedFrom : List (ℕ × WatchKind) → List (ℕ × ℕ) → List Shown → Type 0
+abbrev pub AreWatchedFrom : List (ℕ × WatchKind) → List (ℕ × ℕ) → List transcripts.Shown → Type 0
 AreWatchedFrom watches opened [] = Unit {0}
 AreWatchedFrom watches opened (m ∷ shown) =
     let known = opened ++ flat_map opened_by m.items in
     (m.items ≡ with_watched watches known (filter (λ x. not (is_watched x)) m.items))
     × AreWatchedFrom (watches_after watches m.step.step m.items) known shown
 
-abbrev pub AreWatched : List Shown → Type 0
+abbrev pub AreWatched : List transcripts.Shown → Type 0
 AreWatched shown = AreWatchedFrom [] [] shown

@@ -1,9 +1,9 @@
 pub mod Transcript
 pub mod Once
 pub mod Right
-pub mod Reads
+pub mod FreshReads
 pub mod Heard
-pub mod Outcomes
+pub mod OutcomeOrder
 pub mod Faithful
 pub mod Handed
 pub mod Payloads

@@ -1,5 +1,5 @@
 -- A transcript: the items of a run, step by step. Claims about it speak of one item and of the items above it.
-use Rattle.std.specs.Prelude.{ℕ, max, ◌≡◌, ◌⊎◌, Bool, true, false, not, ◌&&◌, nat_eq, nat_le, nat_lt, if◌then◌else◌, List, [], ◌∷◌, Option, Some, None, filter, flat_map, count_by}
+use Rattle.std.specs.Prelude.{ℕ, max, ◌≡◌, ◌⊎◌, Bool, true, false, not, ◌&&◌, nat_eq, nat_le, nat_lt, if◌then◌else◌, List, [], ◌∷◌, Option, Some, None, filter, flat_map, count_by, is_some}
 use Rattle.std.specs.List.{list_any}
 use Rattle.ax_types.specs.declared.ops.WindowCall.{WindowCall}
 use Rattle.ax_types.specs.declared.ops.WindowCall.TheVariants as call
@@ -67,6 +67,10 @@ is_outcome s n x = is_number (outcome_of s x)
     is_number : Option ℕ → Bool
     is_number None = false
     is_number (Some m) = nat_eq n m
+
+-- how many outcomes of a session's calls there are
+abbrev pub outcome_count : ℕ → List Item → ℕ
+outcome_count s items = count_by (λ x. is_some (outcome_of s x)) items
 
 -- the calls of a session without an outcome among the items, in order
 abbrev pub unanswered : ℕ → List Item → List (ℕ × WindowCall)

@@ -1,2 +1,2 @@
-pub mod Bags
-pub mod Clusters
+pub mod Bag
+pub mod Cluster

@@ -1,6 +1,7 @@
 -- The generator of scripts: a number sets off a row of draws, and the draws give the lines.
 use Rattle.std.specs.Prelude.{ℕ, zero, suc, ◌+◌, ◌*◌, ◌/◌, ◌%◌, ◌^◌, pos, nat_le, nat_eq, if◌then◌else◌, List, [], ◌∷◌, ◌++◌, length, codes}
 use Rattle.std.specs.Fmt.{decimal}
+use Rattle.ax_types.specs.Places as lists
 use Rattle.ax_types.specs.declared.ops.MapOp.TheVariants as map_op
 use Rattle.ax_types.specs.declared.ops.LongOp.TheVariants as long_op
 use Rattle.ax_types.specs.declared.ops.Op.TheVariants as op
@@ -22,7 +23,7 @@ abbrev pub drawn : ℕ → ℕ → ℕ
 drawn x m = (x / 65536) % m
 
 -- a line, and the state after its draws
-pub record Turn : Type 0 where
+pub record DrawnTurn : Type 0 where
   pub line : Line
   pub state : ℕ
 
@@ -44,8 +45,8 @@ abbrev pub fresh_line : ℕ → Line
 fresh_line client = line.Do (step.Query client Lin (codes "n") (query.Long long_query.Get))
 
 -- the turn of this client by the number drawn for what it does; `x` is the state after that draw
-abbrev pub turn_of : ℕ → ℕ → ℕ → Turn
-turn_of client what x =
+abbrev pub turn_for : ℕ → ℕ → ℕ → DrawnTurn
+turn_for client what x =
     let a = next_state x in
     let b = next_state a in
     if nat_le what 3 then record { line = add_line client (drawn a 100); state = a } else
@@ -56,23 +57,23 @@ turn_of client what x =
     record { line = line.Do (step.Keep client); state = x }
 
 -- a turn draws its client, what it does, and the numbers that it needs
-abbrev pub turn : ℕ → Turn
-turn x =
+abbrev pub drawn_turn : ℕ → DrawnTurn
+drawn_turn x =
     let a = next_state x in
     let b = next_state a in
-    turn_of (1 + drawn a 4) (drawn b 10) b
+    turn_for (1 + drawn a 4) (drawn b 10) b
 
 -- the lines of so many turns, the first of them with this number; a `settle 1` follows every eighth, and stands at the end
 abbrev pub turns : ℕ → ℕ → ℕ → List Line
 turns zero number x = line.Settle 1 ∷ []
 turns (suc left) number x =
-    let t = turn x in
+    let t = drawn_turn x in
     if nat_eq (number % 8) 0 then t.line ∷ line.Settle 1 ∷ turns left (number + 1) t.state
     else t.line ∷ turns left (number + 1) t.state
 
 -- the lines before the turns: a leader, and a session for each client
-abbrev pub first_lines : List Line
-first_lines =
+abbrev pub set_up_lines : List Line
+set_up_lines =
     line.Do (step.Elect 1) ∷ line.Settle 1 ∷ line.Do (step.Open 1 1) ∷ line.Do (step.Open 2 2)
     ∷ line.Do (step.Open 3 3) ∷ line.Do (step.Open 4 1) ∷ line.Settle 1 ∷ []
 
@@ -81,12 +82,7 @@ turn_count = 2000
 
 -- the lines after the cluster line
 abbrev pub generated_lines : ℕ → List Line
-generated_lines seed = first_lines ++ turns turn_count 1 seed
-
--- each line with its number, the first of them with this one
-abbrev pub numbered : ℕ → List Line → List (ℕ × Line)
-numbered number [] = []
-numbered number (l ∷ lines) = (number, l) ∷ numbered (number + 1) lines
+generated_lines seed = set_up_lines ++ turns turn_count 1 seed
 
 -- the script of a number: the cluster line is its first line
 abbrev pub gen_script : ℕ → Script
@@ -94,7 +90,7 @@ gen_script seed = record {
   nodes = 3;
   clients = 4;
   timeout = 1000000;
-  lines = numbered 2 (generated_lines seed);
+  lines = lists.numbered 2 (generated_lines seed);
   callers = [];
   plan = [];
   feeds = [];

@@ -1,6 +1,7 @@
 -- What is written of a generated run.
 use Rattle.std.specs.Prelude.{ℕ, Bool, true, false, List, ◌∷◌, ◌++◌, count_by, codes}
 use Rattle.std.specs.Fmt.{decimal}
+use Rattle.ax_types.specs.ItemTests as item_tests
 use Rattle.ax_types.specs.declared.items.Item.{Item}
 use Rattle.ax_types.specs.declared.items.Item.TheVariants as item
 use Rattle.ax_types.specs.declared.scripts.RunEnd.{RunEnd}
@@ -22,10 +23,6 @@ abbrev pub is_event : Item → Bool
 is_event (item.Event session place prev events) = true
 is_event _ = false
 
-abbrev pub is_skip : Item → Bool
-is_skip (item.Skip reason) = true
-is_skip _ = false
-
 -- the word, the number and a new line, before the rest
 abbrev pub number_line : List ℕ → ℕ → List ℕ → List ℕ
 number_line word n rest = word ++ (32 ∷ decimal n ++ (10 ∷ rest))
@@ -40,4 +37,4 @@ summary_text seed steps places items end =
     number_line (codes "gen") seed (number_line (codes "steps") steps (number_line (codes "history") places
     (number_line (codes "called") (count_by is_called items) (number_line (codes "replies") (count_by is_reply items)
     (number_line (codes "reads") (count_by is_read items) (number_line (codes "events") (count_by is_event items)
-    (number_line (codes "skips") (count_by is_skip items) (end_line end))))))))
+    (number_line (codes "skips") (count_by item_tests.is_skip items) (end_line end))))))))

@@ -1,3 +1,3 @@
-pub mod Nodes
-pub mod Steps
-pub mod Keeping
+pub mod Node
+pub mod NodeStep
+pub mod Saving

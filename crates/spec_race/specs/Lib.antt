@@ -1,3 +1,2 @@
 pub mod Rounds
-pub mod Races
-pub mod Rows
+pub mod Race

@@ -1,5 +1,5 @@
-pub mod Lists
-pub mod Counts
-pub mod Logs
-pub mod Votes
-pub mod Acks
+pub mod Positions
+pub mod Majority
+pub mod Log
+pub mod Ballot
+pub mod Progress

@@ -7,34 +7,34 @@ use Rattle.ax_types.specs.declared.replies.Reply.{Reply}
 use Rattle.ax_types.specs.declared.replies.Reply.TheVariants as reply
 use Rattle.ax_types.specs.declared.replies.Event.{Event}
 use Rattle.ax_types.specs.declared.replies.Event.TheVariants as event
-use Rattle.spec_wire.specs.Numbers.{u32_bytes, u64_bytes}
-use Rattle.spec_wire.specs.Ranges.{IsNumber, FitsReply, FitsEvent}
-use Rattle.spec_wire.specs.Resources.{members_bytes, reply_bytes, event_bytes}
-use Rattle.spec_wire.specs.Spelling.{reply_is_spelled}
-use Rattle.spec_reading.specs.Answers.{members_at, reply_at, event_at}
+use Rattle.spec_wire.specs.NumberBytes as number_bytes
+use Rattle.spec_wire.specs.Ranges as ranges
+use Rattle.spec_wire.specs.OperationBytes as operation_bytes
+use Rattle.spec_wire.specs.Spelling as wire_spelling
+use Rattle.spec_reading.specs.ReadReplies as read_replies
 use Rattle.spec_reading.proofs.Readers.{Reads, exact_bind, exact_ok, exact_as, exact_wrong, exact_tag, exact_byte, exact_one, exact_two, exact_three, stable_bind, stable_ok, stable_wrong, stable_if, stable_byte, stable_one, stable_two, stable_three, again_one, again_two, again_three, many_reads}
 use Rattle.spec_reading.proofs.Fields.{name_reads, text_reads, i64_reads, u64_reads, u32_reads}
 
 -- a reply has a spelling
 abbrev pub IsReply : Reply → Type 0
-IsReply x = FitsReply x × IsTrue (reply_is_spelled x)
+IsReply x = ranges.FitsReply x × IsTrue (wire_spelling.reply_is_spelled x)
 
 abbrev AreMembers : List ℕ → Type 0
-AreMembers sessions = AllByRecursion IsNumber sessions × (length sessions < 2 ^ 32)
+AreMembers sessions = AllByRecursion ranges.IsNumber sessions × (length sessions < 2 ^ 32)
 
-members_reads : Reads members_at members_bytes AreMembers
-unfolding members_at
+members_reads : Reads read_replies.members_at operation_bytes.members_bytes AreMembers
+unfolding read_replies.members_at
 members_reads = record {
   again = λ sessions rest fits.
-      rw (append_assoc (u32_bytes (length sessions)) (flat_map u64_bytes sessions) rest, u32_reads.again (length sessions) (flat_map u64_bytes sessions ++ rest) fits.1)
+      rw (append_assoc (number_bytes.u32_bytes (length sessions)) (flat_map number_bytes.u64_bytes sessions) rest, u32_reads.again (length sessions) (flat_map number_bytes.u64_bytes sessions ++ rest) fits.1)
       ((many_reads (length sessions) u64_reads).again sessions rest (refl, fits.0));
   exact = exact_bind _ u32_reads.exact (λ count fc. exact_as (many_reads count u64_reads).exact
       (λ sessions fs. (rw fs.0 refl, (fs.1, omega (arith, fs.0, fc)))));
   stable = stable_bind _ u32_reads.stable (λ count. (many_reads count u64_reads).stable);
 }
 
-event_again : (x : Event) (rest : List ℕ) → FitsEvent x → event_at (event_bytes x ++ rest) ≡ Ok (x, rest)
-unfolding event_at
+event_again : (x : Event) (rest : List ℕ) → ranges.FitsEvent x → read_replies.event_at (operation_bytes.event_bytes x ++ rest) ≡ Ok (x, rest)
+unfolding read_replies.event_at
 event_again (event.Changed a b c) rest (fa, fb, fc) = again_three event.Changed name_reads name_reads text_reads a b c rest fa fb fc
 event_again (event.Removed a b) rest (fa, fb) = again_two event.Removed name_reads name_reads a b rest fa fb
 event_again (event.Set a b) rest (fa, fb) = again_two event.Set name_reads text_reads a b rest fa fb
@@ -45,8 +45,8 @@ event_again (event.Left a b) rest (fa, fb) = again_two event.Left name_reads u64
 event_again (event.Elected a b c) rest (fa, fb, fc) = again_three event.Elected name_reads u64_reads u64_reads a b c rest fa fb fc
 event_again (event.Message a b) rest (fa, fb) = again_two event.Message name_reads text_reads a b rest fa fb
 
-pub event_reads : Reads event_at event_bytes FitsEvent
-unfolding event_at
+pub event_reads : Reads read_replies.event_at operation_bytes.event_bytes ranges.FitsEvent
+unfolding read_replies.event_at
 event_reads = record {
   again = event_again;
   exact = exact_bind _ exact_byte (λ n fn.
@@ -73,8 +73,8 @@ event_reads = record {
       stable_wrong))))))))));
 }
 
-reply_again : (x : Reply) (rest : List ℕ) → IsReply x → reply_at (reply_bytes x ++ rest) ≡ Ok (x, rest)
-unfolding reply_at
+reply_again : (x : Reply) (rest : List ℕ) → IsReply x → read_replies.reply_at (operation_bytes.reply_bytes x ++ rest) ≡ Ok (x, rest)
+unfolding read_replies.reply_at
 reply_again reply.Done rest fits = refl
 reply_again reply.Nothing rest fits = refl
 reply_again (reply.Found a) rest fits = again_one reply.Found text_reads a rest fits.0
@@ -93,8 +93,8 @@ reply_again reply.Overflow rest fits = refl
 reply_again reply.Full rest fits = refl
 reply_again reply.WrongKind rest fits = refl
 
-pub reply_reads : Reads reply_at reply_bytes IsReply
-unfolding reply_at
+pub reply_reads : Reads read_replies.reply_at operation_bytes.reply_bytes IsReply
+unfolding read_replies.reply_at
 reply_reads = record {
   again = reply_again;
   exact = exact_bind _ exact_byte (λ n fn.

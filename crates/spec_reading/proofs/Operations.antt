@@ -20,14 +20,14 @@ use Rattle.ax_types.specs.declared.ops.TopicOp.{TopicOp}
 use Rattle.ax_types.specs.declared.ops.TopicOp.TheVariants as topic_op
 use Rattle.ax_types.specs.declared.ops.Op.{Op}
 use Rattle.ax_types.specs.declared.ops.Op.TheVariants as op
-use Rattle.spec_wire.specs.Ranges.{FitsMapOp, FitsValueOp, FitsLongOp, FitsSetOp, FitsQueueOp, FitsMultimapOp, FitsTopicOp, FitsOp}
-use Rattle.spec_wire.specs.Resources.{map_op_bytes, value_op_bytes, long_op_bytes, lock_op_bytes, group_op_bytes, set_op_bytes, queue_op_bytes, multimap_op_bytes, topic_op_bytes, op_bytes}
-use Rattle.spec_reading.specs.Operations.{map_op_at, value_op_at, long_op_at, lock_op_at, group_op_at, set_op_at, queue_op_at, multimap_op_at, topic_op_at, op_at}
+use Rattle.spec_wire.specs.Ranges as ranges
+use Rattle.spec_wire.specs.OperationBytes as operation_bytes
+use Rattle.spec_reading.specs.ReadOperations as read_operations
 use Rattle.spec_reading.proofs.Readers.{Reads, exact_bind, exact_ok, exact_wrong, exact_tag, exact_byte, exact_one, exact_two, exact_three, stable_bind, stable_ok, stable_wrong, stable_if, stable_byte, stable_one, stable_two, stable_three, again_one, again_two, again_three}
 use Rattle.spec_reading.proofs.Fields.{name_reads, text_reads, i64_reads, life_reads}
 
-map_op_again : (x : MapOp) (rest : List ℕ) → FitsMapOp x → map_op_at (map_op_bytes x ++ rest) ≡ Ok (x, rest)
-unfolding map_op_at
+map_op_again : (x : MapOp) (rest : List ℕ) → ranges.FitsMapOp x → read_operations.map_op_at (operation_bytes.map_op_bytes x ++ rest) ≡ Ok (x, rest)
+unfolding read_operations.map_op_at
 map_op_again (map_op.Put a b) rest (fa, fb) = again_two map_op.Put name_reads text_reads a b rest fa fb
 map_op_again (map_op.PutIfAbsent a b) rest (fa, fb) = again_two map_op.PutIfAbsent name_reads text_reads a b rest fa fb
 map_op_again (map_op.Replace a b) rest (fa, fb) = again_two map_op.Replace name_reads text_reads a b rest fa fb
@@ -36,8 +36,8 @@ map_op_again map_op.Clear rest fits = refl
 map_op_again map_op.Listen rest fits = refl
 map_op_again (map_op.PutFor a b c) rest (fa, fb, fc) = again_three map_op.PutFor name_reads text_reads life_reads a b c rest fa fb fc
 
-pub map_op_reads : Reads map_op_at map_op_bytes FitsMapOp
-unfolding map_op_at
+pub map_op_reads : Reads read_operations.map_op_at operation_bytes.map_op_bytes ranges.FitsMapOp
+unfolding read_operations.map_op_at
 map_op_reads = record {
   again = map_op_again;
   exact = exact_bind _ exact_byte (λ n fn.
@@ -60,15 +60,15 @@ map_op_reads = record {
       stable_wrong))))))));
 }
 
-value_op_again : (x : ValueOp) (rest : List ℕ) → FitsValueOp x → value_op_at (value_op_bytes x ++ rest) ≡ Ok (x, rest)
-unfolding value_op_at
+value_op_again : (x : ValueOp) (rest : List ℕ) → ranges.FitsValueOp x → read_operations.value_op_at (operation_bytes.value_op_bytes x ++ rest) ≡ Ok (x, rest)
+unfolding read_operations.value_op_at
 value_op_again (value_op.Set a) rest fa = again_one value_op.Set text_reads a rest fa
 value_op_again (value_op.Cas a b) rest (fa, fb) = again_two value_op.Cas text_reads text_reads a b rest fa fb
 value_op_again value_op.Clear rest fits = refl
 value_op_again value_op.Listen rest fits = refl
 
-pub value_op_reads : Reads value_op_at value_op_bytes FitsValueOp
-unfolding value_op_at
+pub value_op_reads : Reads read_operations.value_op_at operation_bytes.value_op_bytes ranges.FitsValueOp
+unfolding read_operations.value_op_at
 value_op_reads = record {
   again = value_op_again;
   exact = exact_bind _ exact_byte (λ n fn.
@@ -85,15 +85,15 @@ value_op_reads = record {
       stable_wrong)))));
 }
 
-long_op_again : (x : LongOp) (rest : List ℕ) → FitsLongOp x → long_op_at (long_op_bytes x ++ rest) ≡ Ok (x, rest)
-unfolding long_op_at
+long_op_again : (x : LongOp) (rest : List ℕ) → ranges.FitsLongOp x → read_operations.long_op_at (operation_bytes.long_op_bytes x ++ rest) ≡ Ok (x, rest)
+unfolding read_operations.long_op_at
 long_op_again (long_op.Add a) rest fa = again_one long_op.Add i64_reads a rest fa
 long_op_again (long_op.GetAndAdd a) rest fa = again_one long_op.GetAndAdd i64_reads a rest fa
 long_op_again (long_op.Set a) rest fa = again_one long_op.Set i64_reads a rest fa
 long_op_again (long_op.Cas a b) rest (fa, fb) = again_two long_op.Cas i64_reads i64_reads a b rest fa fb
 
-pub long_op_reads : Reads long_op_at long_op_bytes FitsLongOp
-unfolding long_op_at
+pub long_op_reads : Reads read_operations.long_op_at operation_bytes.long_op_bytes ranges.FitsLongOp
+unfolding read_operations.long_op_at
 long_op_reads = record {
   again = long_op_again;
   exact = exact_bind _ exact_byte (λ n fn.
@@ -113,15 +113,15 @@ long_op_reads = record {
 abbrev AnyLockOp : LockOp → Type 0
 AnyLockOp x = Unit {0}
 
-lock_op_again : (x : LockOp) (rest : List ℕ) → AnyLockOp x → lock_op_at (lock_op_bytes x ++ rest) ≡ Ok (x, rest)
-unfolding lock_op_at
+lock_op_again : (x : LockOp) (rest : List ℕ) → AnyLockOp x → read_operations.lock_op_at (operation_bytes.lock_op_bytes x ++ rest) ≡ Ok (x, rest)
+unfolding read_operations.lock_op_at
 lock_op_again lock_op.Lock rest fits = refl
 lock_op_again lock_op.TryLock rest fits = refl
 lock_op_again lock_op.Unlock rest fits = refl
 lock_op_again lock_op.Cancel rest fits = refl
 
-pub lock_op_reads : Reads lock_op_at lock_op_bytes AnyLockOp
-unfolding lock_op_at
+pub lock_op_reads : Reads read_operations.lock_op_at operation_bytes.lock_op_bytes AnyLockOp
+unfolding read_operations.lock_op_at
 lock_op_reads = record {
   again = lock_op_again;
   exact = exact_bind _ exact_byte (λ n fn.
@@ -141,14 +141,14 @@ lock_op_reads = record {
 abbrev AnyGroupOp : GroupOp → Type 0
 AnyGroupOp x = Unit {0}
 
-group_op_again : (x : GroupOp) (rest : List ℕ) → AnyGroupOp x → group_op_at (group_op_bytes x ++ rest) ≡ Ok (x, rest)
-unfolding group_op_at
+group_op_again : (x : GroupOp) (rest : List ℕ) → AnyGroupOp x → read_operations.group_op_at (operation_bytes.group_op_bytes x ++ rest) ≡ Ok (x, rest)
+unfolding read_operations.group_op_at
 group_op_again group_op.Join rest fits = refl
 group_op_again group_op.Leave rest fits = refl
 group_op_again group_op.Listen rest fits = refl
 
-pub group_op_reads : Reads group_op_at group_op_bytes AnyGroupOp
-unfolding group_op_at
+pub group_op_reads : Reads read_operations.group_op_at operation_bytes.group_op_bytes AnyGroupOp
+unfolding read_operations.group_op_at
 group_op_reads = record {
   again = group_op_again;
   exact = exact_bind _ exact_byte (λ n fn.
@@ -163,14 +163,14 @@ group_op_reads = record {
       stable_wrong))));
 }
 
-set_op_again : (x : SetOp) (rest : List ℕ) → FitsSetOp x → set_op_at (set_op_bytes x ++ rest) ≡ Ok (x, rest)
-unfolding set_op_at
+set_op_again : (x : SetOp) (rest : List ℕ) → ranges.FitsSetOp x → read_operations.set_op_at (operation_bytes.set_op_bytes x ++ rest) ≡ Ok (x, rest)
+unfolding read_operations.set_op_at
 set_op_again (set_op.Add a) rest fa = again_one set_op.Add text_reads a rest fa
 set_op_again (set_op.Remove a) rest fa = again_one set_op.Remove text_reads a rest fa
 set_op_again set_op.Clear rest fits = refl
 
-pub set_op_reads : Reads set_op_at set_op_bytes FitsSetOp
-unfolding set_op_at
+pub set_op_reads : Reads read_operations.set_op_at operation_bytes.set_op_bytes ranges.FitsSetOp
+unfolding read_operations.set_op_at
 set_op_reads = record {
   again = set_op_again;
   exact = exact_bind _ exact_byte (λ n fn.
@@ -185,13 +185,13 @@ set_op_reads = record {
       stable_wrong))));
 }
 
-queue_op_again : (x : QueueOp) (rest : List ℕ) → FitsQueueOp x → queue_op_at (queue_op_bytes x ++ rest) ≡ Ok (x, rest)
-unfolding queue_op_at
+queue_op_again : (x : QueueOp) (rest : List ℕ) → ranges.FitsQueueOp x → read_operations.queue_op_at (operation_bytes.queue_op_bytes x ++ rest) ≡ Ok (x, rest)
+unfolding read_operations.queue_op_at
 queue_op_again (queue_op.Offer a) rest fa = again_one queue_op.Offer text_reads a rest fa
 queue_op_again queue_op.Poll rest fits = refl
 
-pub queue_op_reads : Reads queue_op_at queue_op_bytes FitsQueueOp
-unfolding queue_op_at
+pub queue_op_reads : Reads read_operations.queue_op_at operation_bytes.queue_op_bytes ranges.FitsQueueOp
+unfolding read_operations.queue_op_at
 queue_op_reads = record {
   again = queue_op_again;
   exact = exact_bind _ exact_byte (λ n fn.
@@ -204,14 +204,14 @@ queue_op_reads = record {
       stable_wrong)));
 }
 
-multimap_op_again : (x : MultimapOp) (rest : List ℕ) → FitsMultimapOp x → multimap_op_at (multimap_op_bytes x ++ rest) ≡ Ok (x, rest)
-unfolding multimap_op_at
+multimap_op_again : (x : MultimapOp) (rest : List ℕ) → ranges.FitsMultimapOp x → read_operations.multimap_op_at (operation_bytes.multimap_op_bytes x ++ rest) ≡ Ok (x, rest)
+unfolding read_operations.multimap_op_at
 multimap_op_again (multimap_op.Put a b) rest (fa, fb) = again_two multimap_op.Put name_reads text_reads a b rest fa fb
 multimap_op_again (multimap_op.Remove a b) rest (fa, fb) = again_two multimap_op.Remove name_reads text_reads a b rest fa fb
 multimap_op_again (multimap_op.RemoveAll a) rest fa = again_one multimap_op.RemoveAll name_reads a rest fa
 
-pub multimap_op_reads : Reads multimap_op_at multimap_op_bytes FitsMultimapOp
-unfolding multimap_op_at
+pub multimap_op_reads : Reads read_operations.multimap_op_at operation_bytes.multimap_op_bytes ranges.FitsMultimapOp
+unfolding read_operations.multimap_op_at
 multimap_op_reads = record {
   again = multimap_op_again;
   exact = exact_bind _ exact_byte (λ n fn.
@@ -226,14 +226,14 @@ multimap_op_reads = record {
       stable_wrong))));
 }
 
-topic_op_again : (x : TopicOp) (rest : List ℕ) → FitsTopicOp x → topic_op_at (topic_op_bytes x ++ rest) ≡ Ok (x, rest)
-unfolding topic_op_at
+topic_op_again : (x : TopicOp) (rest : List ℕ) → ranges.FitsTopicOp x → read_operations.topic_op_at (operation_bytes.topic_op_bytes x ++ rest) ≡ Ok (x, rest)
+unfolding read_operations.topic_op_at
 topic_op_again topic_op.Subscribe rest fits = refl
 topic_op_again topic_op.Unsubscribe rest fits = refl
 topic_op_again (topic_op.Publish a) rest fa = again_one topic_op.Publish text_reads a rest fa
 
-pub topic_op_reads : Reads topic_op_at topic_op_bytes FitsTopicOp
-unfolding topic_op_at
+pub topic_op_reads : Reads read_operations.topic_op_at operation_bytes.topic_op_bytes ranges.FitsTopicOp
+unfolding read_operations.topic_op_at
 topic_op_reads = record {
   again = topic_op_again;
   exact = exact_bind _ exact_byte (λ n fn.
@@ -248,8 +248,8 @@ topic_op_reads = record {
       stable_wrong))));
 }
 
-op_again : (x : Op) (rest : List ℕ) → FitsOp x → op_at (op_bytes x ++ rest) ≡ Ok (x, rest)
-unfolding op_at
+op_again : (x : Op) (rest : List ℕ) → ranges.FitsOp x → read_operations.op_at (operation_bytes.op_bytes x ++ rest) ≡ Ok (x, rest)
+unfolding read_operations.op_at
 op_again (op.Map a) rest fa = again_one op.Map map_op_reads a rest fa
 op_again (op.Value a) rest fa = again_one op.Value value_op_reads a rest fa
 op_again (op.Long a) rest fa = again_one op.Long long_op_reads a rest fa
@@ -260,8 +260,8 @@ op_again (op.Queue a) rest fa = again_one op.Queue queue_op_reads a rest fa
 op_again (op.Multimap a) rest fa = again_one op.Multimap multimap_op_reads a rest fa
 op_again (op.Topic a) rest fa = again_one op.Topic topic_op_reads a rest fa
 
-pub op_reads : Reads op_at op_bytes FitsOp
-unfolding op_at
+pub op_reads : Reads read_operations.op_at operation_bytes.op_bytes ranges.FitsOp
+unfolding read_operations.op_at
 op_reads = record {
   again = op_again;
   exact = exact_bind _ exact_byte (λ n fn.

@@ -13,11 +13,11 @@ use Rattle.ax_types.specs.declared.replies.Reply.{Reply}
 use Rattle.ax_types.specs.declared.replies.Event.{Event}
 use Rattle.ax_types.specs.declared.packets.Payload.{Payload}
 use Rattle.ax_types.specs.declared.packets.Payload.TheVariants as payload
-use Rattle.spec_wire.specs.Numbers.{u32_bytes, u64_bytes, counted_bytes, truth_bytes}
-use Rattle.spec_wire.specs.Ranges.{IsNumber, IsClient, IsName, FitsEntry, FitsEvent, FitsQuery, FitsPayload}
-use Rattle.spec_wire.specs.Resources.{query_bytes, reply_bytes, event_bytes}
-use Rattle.spec_wire.specs.Spelling.{entry_bytes, payload_bytes, level_bytes, how_bytes, entries_bytes, events_bytes, reach_is_spelled, reply_is_spelled, is_spelled}
-use Rattle.spec_reading.specs.Packets.{level_at, how_at, reach_at, append_at, append_reply_at, query_payload_at, reply_payload_at, answer_at, events_at, batch_at, payload_at}
+use Rattle.spec_wire.specs.NumberBytes as number_bytes
+use Rattle.spec_wire.specs.Ranges as ranges
+use Rattle.spec_wire.specs.OperationBytes as operation_bytes
+use Rattle.spec_wire.specs.Spelling as wire_spelling
+use Rattle.spec_reading.specs.Packets as packets
 use Rattle.spec_reading.proofs.Readers.{Reads, IsStable, IsExact, exact_bind, exact_ok, exact_as, exact_wrong, exact_if, exact_tag, exact_byte, exact_two, exact_three, stable_bind, stable_ok, stable_wrong, stable_if, stable_byte, stable_two, stable_three, again_two, again_three, again_bind, many_reads}
 use Rattle.spec_reading.proofs.Fields.{name_reads, u64_reads, u32_reads, client_reads, truth_reads, within_reads, small_reads, and_true, both}
 use Rattle.spec_reading.proofs.Queries.{query_reads}
@@ -29,11 +29,11 @@ use Rattle.spec_reading.proofs.Entries.{entry_reads, again_command, again_keep, 
 abbrev AnyLevel : Level → Type 0
 AnyLevel l = Unit {0}
 
-level_again : (l : Level) (rest : List ℕ) → level_at (level_bytes l ++ rest) ≡ Ok (l, rest)
+level_again : (l : Level) (rest : List ℕ) → packets.level_at (wire_spelling.level_bytes l ++ rest) ≡ Ok (l, rest)
 level_again Seq rest = refl
 level_again Lin rest = refl
 
-level_reads : Reads level_at level_bytes AnyLevel
+level_reads : Reads packets.level_at wire_spelling.level_bytes AnyLevel
 level_reads = record {
   again = λ l rest fits. level_again l rest;
   exact = exact_bind _ exact_byte (λ n fn. exact_tag n 0 (exact_ok Seq refl tt) (exact_tag n 1 (exact_ok Lin refl tt) exact_wrong));
@@ -43,11 +43,11 @@ level_reads = record {
 abbrev AnyHow : How → Type 0
 AnyHow h = Unit {0}
 
-how_again : (h : How) (rest : List ℕ) → how_at (how_bytes h ++ rest) ≡ Ok (h, rest)
+how_again : (h : How) (rest : List ℕ) → packets.how_at (wire_spelling.how_bytes h ++ rest) ≡ Ok (h, rest)
 how_again Closed rest = refl
 how_again Expired rest = refl
 
-how_reads : Reads how_at how_bytes AnyHow
+how_reads : Reads packets.how_at wire_spelling.how_bytes AnyHow
 how_reads = record {
   again = λ h rest fits. how_again h rest;
   exact = exact_bind _ exact_byte (λ n fn. exact_tag n 0 (exact_ok Closed refl tt) (exact_tag n 1 (exact_ok Expired refl tt) exact_wrong));
@@ -56,13 +56,13 @@ how_reads = record {
 
 abbrev IsReach : Level → ℕ → Type 0
 IsReach Seq n = (0 ≤ n) × (n ≤ 0)
-IsReach Lin n = IsNumber n
+IsReach Lin n = ranges.IsNumber n
 
-reach_reads : (l : Level) → Reads (reach_at l) u64_bytes (IsReach l)
+reach_reads : (l : Level) → Reads (packets.reach_at l) number_bytes.u64_bytes (IsReach l)
 reach_reads Seq = within_reads 0 0 (omega arith)
 reach_reads Lin = u64_reads
 
-reaches_of : (l : Level) (term arrival : ℕ) → IsNumber term → IsNumber arrival → reach_is_spelled l term arrival ≡ true → IsReach l term × IsReach l arrival
+reaches_of : (l : Level) (term arrival : ℕ) → ranges.IsNumber term → ranges.IsNumber arrival → wire_spelling.reach_is_spelled l term arrival ≡ true → IsReach l term × IsReach l arrival
 reaches_of Seq term arrival ft fa h =
     let tests = and_true (nat_eq term 0) (nat_eq arrival 0) h in
     let no_term = eqb-true term 0 tests.0 in
@@ -70,7 +70,7 @@ reaches_of Seq term arrival ft fa h =
     ((omega arith, omega arith), (omega arith, omega arith))
 reaches_of Lin term arrival ft fa h = (ft, fa)
 
-reach_numbers : (l : Level) (term arrival : ℕ) → IsReach l term → IsReach l arrival → IsNumber term × IsNumber arrival × (reach_is_spelled l term arrival ≡ true)
+reach_numbers : (l : Level) (term arrival : ℕ) → IsReach l term → IsReach l arrival → ranges.IsNumber term × ranges.IsNumber arrival × (wire_spelling.reach_is_spelled l term arrival ≡ true)
 reach_numbers Seq term arrival ft fa =
     let no_term : term ≡ 0 = omega arith in
     let no_arrival : arrival ≡ 0 = omega arith in
@@ -80,16 +80,16 @@ reach_numbers Lin term arrival ft fa = (ft, fa, refl)
 -- ---- the events of a batch
 
 abbrev AreEvents : List Event → Type 0
-AreEvents events = AllByRecursion FitsEvent events × IsTrue (leb 1 (length events) && ltb (length events) (2 ^ 32))
+AreEvents events = AllByRecursion ranges.FitsEvent events × IsTrue (leb 1 (length events) && ltb (length events) (2 ^ 32))
 
-events_reads : Reads events_at events_bytes AreEvents
-unfolding events_at
+events_reads : Reads packets.events_at wire_spelling.events_bytes AreEvents
+unfolding packets.events_at
 events_reads = record {
   again = λ events rest fits.
       let tests = and_true (leb 1 (length events)) (ltb (length events) (2 ^ 32)) fits.1 in
       let some : 1 ≤ length events = leb-true _ _ tests.0 in
       let none : length events ≡ 0 → ⊥ = λ e. omega arith in
-      rw (append_assoc (u32_bytes (length events)) (flat_map event_bytes events) rest, u32_reads.again (length events) (flat_map event_bytes events ++ rest) (ltb-true _ _ tests.1), ne_eqb (length events) 0 none)
+      rw (append_assoc (number_bytes.u32_bytes (length events)) (flat_map operation_bytes.event_bytes events) rest, u32_reads.again (length events) (flat_map operation_bytes.event_bytes events ++ rest) (ltb-true _ _ tests.1), ne_eqb (length events) 0 none)
       ((many_reads (length events) event_reads).again events rest (refl, fits.0));
   exact = exact_bind _ u32_reads.exact (λ count fc. exact_if (nat_eq count 0) (λ none. exact_wrong) (λ some. exact_as (many_reads count event_reads).exact
       (λ events fs.
@@ -103,35 +103,35 @@ events_reads = record {
 
 -- a payload that has a spelling
 abbrev pub IsPayload : Payload → Type 0
-IsPayload p = FitsPayload p × IsTrue (is_spelled p)
+IsPayload p = ranges.FitsPayload p × IsTrue (wire_spelling.is_spelled p)
 
 append_again : (term prev prev_term commit round : ℕ) (entries : List Entry) (rest : List ℕ)
-    → IsNumber term → IsNumber prev → IsNumber prev_term → IsNumber commit → IsNumber round → AllByRecursion FitsEntry entries → length entries ≤ 16
-    → append_at (u64_bytes term ++ u64_bytes prev ++ u64_bytes prev_term ++ u64_bytes commit ++ u64_bytes round ++ entries_bytes entries ++ rest)
+    → ranges.IsNumber term → ranges.IsNumber prev → ranges.IsNumber prev_term → ranges.IsNumber commit → ranges.IsNumber round → AllByRecursion ranges.FitsEntry entries → length entries ≤ 16
+    → packets.append_at (number_bytes.u64_bytes term ++ number_bytes.u64_bytes prev ++ number_bytes.u64_bytes prev_term ++ number_bytes.u64_bytes commit ++ number_bytes.u64_bytes round ++ wire_spelling.entries_bytes entries ++ rest)
     ≡ Ok (payload.Append term prev prev_term commit round entries, rest)
-unfolding append_at
+unfolding packets.append_at
 append_again term prev prev_term commit round entries rest ft fp fpt fc fr fe few = simp append_assoc
     (again_bind _ term _ _ u64_reads ft (again_bind _ prev _ _ u64_reads fp (again_bind _ prev_term _ _ u64_reads fpt (again_bind _ commit _ _ u64_reads fc (again_bind _ round _ _ u64_reads fr
     (again_bind _ (length entries) _ _ (small_reads 0 16 (omega arith)) (omega arith, few) (again_bind _ entries _ _ (many_reads (length entries) entry_reads) (refl, fe) refl)))))))
 
 append_reply_again : (term : ℕ) (ok : Bool) (place : ℕ) (round : ℕ) (rest : List ℕ)
-    → IsNumber term → IsNumber place → IsNumber round
-    → append_reply_at (u64_bytes term ++ truth_bytes ok ++ u64_bytes place ++ u64_bytes round ++ rest) ≡ Ok (payload.AppendReply term ok place round, rest)
-unfolding append_reply_at
+    → ranges.IsNumber term → ranges.IsNumber place → ranges.IsNumber round
+    → packets.append_reply_at (number_bytes.u64_bytes term ++ number_bytes.truth_bytes ok ++ number_bytes.u64_bytes place ++ number_bytes.u64_bytes round ++ rest) ≡ Ok (payload.AppendReply term ok place round, rest)
+unfolding packets.append_reply_at
 append_reply_again term ok place round rest f_term f_place f_round = simp append_assoc
     (again_bind _ term _ _ u64_reads f_term (again_bind _ ok _ _ truth_reads tt (again_bind _ place _ _ u64_reads f_place (again_bind _ round _ _ u64_reads f_round refl))))
 
 reply_payload_again : (session : ℕ) (seq : ℕ) (place : ℕ) (events : ℕ) (reply : Reply) (rest : List ℕ)
-    → IsNumber session → IsNumber seq → IsNumber place → IsNumber events → IsReply reply
-    → reply_payload_at (u64_bytes session ++ u64_bytes seq ++ u64_bytes place ++ u64_bytes events ++ reply_bytes reply ++ rest) ≡ Ok (payload.Reply session seq place events reply, rest)
-unfolding reply_payload_at
+    → ranges.IsNumber session → ranges.IsNumber seq → ranges.IsNumber place → ranges.IsNumber events → IsReply reply
+    → packets.reply_payload_at (number_bytes.u64_bytes session ++ number_bytes.u64_bytes seq ++ number_bytes.u64_bytes place ++ number_bytes.u64_bytes events ++ operation_bytes.reply_bytes reply ++ rest) ≡ Ok (payload.Reply session seq place events reply, rest)
+unfolding packets.reply_payload_at
 reply_payload_again session seq place events reply rest f_session f_seq f_place f_events f_reply = simp append_assoc
     (again_bind _ session _ _ u64_reads f_session (again_bind _ seq _ _ u64_reads f_seq (again_bind _ place _ _ u64_reads f_place (again_bind _ events _ _ u64_reads f_events (again_bind _ reply _ _ reply_reads f_reply refl)))))
 
 answer_again : (session : ℕ) (call : ℕ) (level : Level) (place : ℕ) (events : ℕ) (term : ℕ) (arrival : ℕ) (reply : Reply) (rest : List ℕ)
-    → IsNumber session → IsNumber call → IsNumber place → IsNumber events → IsReach level term → IsReach level arrival → IsReply reply
-    → answer_at (u64_bytes session ++ u64_bytes call ++ level_bytes level ++ u64_bytes place ++ u64_bytes events ++ u64_bytes term ++ u64_bytes arrival ++ reply_bytes reply ++ rest) ≡ Ok (payload.Answer session call level place events term arrival reply, rest)
-unfolding answer_at
+    → ranges.IsNumber session → ranges.IsNumber call → ranges.IsNumber place → ranges.IsNumber events → IsReach level term → IsReach level arrival → IsReply reply
+    → packets.answer_at (number_bytes.u64_bytes session ++ number_bytes.u64_bytes call ++ wire_spelling.level_bytes level ++ number_bytes.u64_bytes place ++ number_bytes.u64_bytes events ++ number_bytes.u64_bytes term ++ number_bytes.u64_bytes arrival ++ operation_bytes.reply_bytes reply ++ rest) ≡ Ok (payload.Answer session call level place events term arrival reply, rest)
+unfolding packets.answer_at
 answer_again session call level place events term arrival reply rest f_session f_call f_place f_events f_term f_arrival f_reply = simp append_assoc
     (again_bind _ session _ _ u64_reads f_session (again_bind _ call _ _ u64_reads f_call (again_bind _ level _ _ level_reads tt (again_bind _ place _ _ u64_reads f_place (again_bind _ events _ _ u64_reads f_events (again_bind _ term _ _ (reach_reads level) f_term (again_bind _ arrival _ _ (reach_reads level) f_arrival (again_bind _ reply _ _ reply_reads f_reply refl))))))))
 
@@ -139,24 +139,24 @@ regrouped : (a b c d e : List ℕ) → a ++ b ++ c ++ d ++ e ≡ a ++ (b ++ (c +
 regrouped a b c d e = simp append_assoc
 
 batch_again : (session : ℕ) (place : ℕ) (prev : ℕ) (events : List Event) (rest : List ℕ)
-    → IsNumber session → IsNumber place → IsNumber prev → AreEvents events
-    → batch_at (u64_bytes session ++ u64_bytes place ++ u64_bytes prev ++ events_bytes events ++ rest) ≡ Ok (payload.Batch session place prev events, rest)
-unfolding batch_at
+    → ranges.IsNumber session → ranges.IsNumber place → ranges.IsNumber prev → AreEvents events
+    → packets.batch_at (number_bytes.u64_bytes session ++ number_bytes.u64_bytes place ++ number_bytes.u64_bytes prev ++ wire_spelling.events_bytes events ++ rest) ≡ Ok (payload.Batch session place prev events, rest)
+unfolding packets.batch_at
 batch_again session place prev events rest f_session f_place f_prev f_events =
-    ap batch_at (regrouped (u64_bytes session) (u64_bytes place) (u64_bytes prev) (events_bytes events) rest)
+    ap packets.batch_at (regrouped (number_bytes.u64_bytes session) (number_bytes.u64_bytes place) (number_bytes.u64_bytes prev) (wire_spelling.events_bytes events) rest)
     ∙ (again_bind _ session _ _ u64_reads f_session (again_bind _ place _ _ u64_reads f_place (again_bind _ prev _ _ u64_reads f_prev (again_bind _ events _ _ events_reads f_events refl))))
 
 query_payload_again : (client : ℕ) (session : ℕ) (call : ℕ) (level : Level) (seen : ℕ) (seq : ℕ) (name : List ℕ) (query : Query) (rest : List ℕ)
-    → IsClient client → IsNumber session → IsNumber call → IsNumber seen → IsNumber seq → IsName name → FitsQuery query
-    → query_payload_at ((client ∷ []) ++ u64_bytes session ++ u64_bytes call ++ level_bytes level ++ u64_bytes seen ++ u64_bytes seq ++ counted_bytes name ++ query_bytes query ++ rest) ≡ Ok (payload.Query client session call level seen seq name query, rest)
-unfolding query_payload_at
+    → ranges.IsClient client → ranges.IsNumber session → ranges.IsNumber call → ranges.IsNumber seen → ranges.IsNumber seq → ranges.IsName name → ranges.FitsQuery query
+    → packets.query_payload_at ((client ∷ []) ++ number_bytes.u64_bytes session ++ number_bytes.u64_bytes call ++ wire_spelling.level_bytes level ++ number_bytes.u64_bytes seen ++ number_bytes.u64_bytes seq ++ number_bytes.counted_bytes name ++ operation_bytes.query_bytes query ++ rest) ≡ Ok (payload.Query client session call level seen seq name query, rest)
+unfolding packets.query_payload_at
 query_payload_again client session call level seen seq name query rest f_client f_session f_call f_seen f_seq f_name f_query =
-    let flat : u64_bytes session ++ u64_bytes call ++ level_bytes level ++ u64_bytes seen ++ u64_bytes seq ++ counted_bytes name ++ query_bytes query ++ rest ≡ u64_bytes session ++ (u64_bytes call ++ (level_bytes level ++ (u64_bytes seen ++ (u64_bytes seq ++ (counted_bytes name ++ (query_bytes query ++ rest)))))) = simp append_assoc in
-    ap (λ (t : List ℕ). query_payload_at (client ∷ t)) flat
+    let flat : number_bytes.u64_bytes session ++ number_bytes.u64_bytes call ++ wire_spelling.level_bytes level ++ number_bytes.u64_bytes seen ++ number_bytes.u64_bytes seq ++ number_bytes.counted_bytes name ++ operation_bytes.query_bytes query ++ rest ≡ number_bytes.u64_bytes session ++ (number_bytes.u64_bytes call ++ (wire_spelling.level_bytes level ++ (number_bytes.u64_bytes seen ++ (number_bytes.u64_bytes seq ++ (number_bytes.counted_bytes name ++ (operation_bytes.query_bytes query ++ rest)))))) = simp append_assoc in
+    ap (λ (t : List ℕ). packets.query_payload_at (client ∷ t)) flat
     ∙ (again_bind _ client _ _ client_reads f_client (again_bind _ session _ _ u64_reads f_session (again_bind _ call _ _ u64_reads f_call (again_bind _ level _ _ level_reads tt (again_bind _ seen _ _ u64_reads f_seen (again_bind _ seq _ _ u64_reads f_seq (again_bind _ name _ _ name_reads f_name (again_bind _ query _ _ query_reads f_query refl))))))))
 
-payload_again : (x : Payload) (rest : List ℕ) → IsPayload x → payload_at (payload_bytes x ++ rest) ≡ Ok (x, rest)
-unfolding payload_at
+payload_again : (x : Payload) (rest : List ℕ) → IsPayload x → packets.payload_at (wire_spelling.payload_bytes x ++ rest) ≡ Ok (x, rest)
+unfolding packets.payload_at
 payload_again (payload.Vote a b c) rest ((fa, fb, fc), s) = again_three payload.Vote u64_reads u64_reads u64_reads a b c rest fa fb fc
 payload_again (payload.VoteReply a b) rest (fa, s) = again_two payload.VoteReply u64_reads truth_reads a b rest fa tt
 payload_again (payload.Append a b c d e entries) rest ((fa, fb, fc, fd, fe, fs), s) = append_again a b c d e entries rest fa fb fc fd fe fs (leb-true _ _ s)
@@ -172,73 +172,73 @@ payload_again (payload.Opened a b) rest ((fa, fb), s) = again_two payload.Opened
 payload_again (payload.Reply a b c d r) rest ((fa, fb, fc, fd, fr), s) = reply_payload_again a b c d r rest fa fb fc fd (fr, s)
 payload_again (payload.Gap a b) rest ((fa, fb), s) = again_two payload.Gap u64_reads u64_reads a b rest fa fb
 payload_again (payload.Answer a b l c d t i r) rest ((fa, fb, fc, fd, ft, fi, fr), s) =
-    let tests = and_true (reach_is_spelled l t i) (reply_is_spelled r) s in
+    let tests = and_true (wire_spelling.reach_is_spelled l t i) (wire_spelling.reply_is_spelled r) s in
     let reaches = reaches_of l t i ft fi tests.0 in
     answer_again a b l c d t i r rest fa fb fc fd reaches.0 reaches.1 (fr, tests.1)
 payload_again (payload.Batch a b c events) rest ((fa, fb, fc, fe), s) = batch_again a b c events rest fa fb fc (fe, s)
 payload_again (payload.Ended a b h) rest ((fa, fb), s) = again_three payload.Ended u64_reads u64_reads how_reads a b h rest fa fb tt
 
-append_reply_exact : IsExact payload_bytes IsPayload (4 ∷ []) append_reply_at
-unfolding append_reply_at
+append_reply_exact : IsExact wire_spelling.payload_bytes IsPayload (4 ∷ []) packets.append_reply_at
+unfolding packets.append_reply_at
 append_reply_exact = exact_bind _ u64_reads.exact (λ a f_a. exact_bind _ truth_reads.exact (λ b f_b. exact_bind _ u64_reads.exact (λ c f_c. exact_bind _ u64_reads.exact (λ d f_d. exact_ok (payload.AppendReply a b c d) refl ((f_a, f_c, f_d), refl)))))
 
-append_reply_stable : IsStable append_reply_at
-unfolding append_reply_at
+append_reply_stable : IsStable packets.append_reply_at
+unfolding packets.append_reply_at
 append_reply_stable = stable_bind _ u64_reads.stable (λ a. stable_bind _ truth_reads.stable (λ b. stable_bind _ u64_reads.stable (λ c. stable_bind _ u64_reads.stable (λ d. stable_ok (payload.AppendReply a b c d)))))
 
-reply_payload_exact : IsExact payload_bytes IsPayload (13 ∷ []) reply_payload_at
-unfolding reply_payload_at
+reply_payload_exact : IsExact wire_spelling.payload_bytes IsPayload (13 ∷ []) packets.reply_payload_at
+unfolding packets.reply_payload_at
 reply_payload_exact = exact_bind _ u64_reads.exact (λ a f_a. exact_bind _ u64_reads.exact (λ b f_b. exact_bind _ u64_reads.exact (λ c f_c. exact_bind _ u64_reads.exact (λ d f_d. exact_bind _ reply_reads.exact (λ r f_r. exact_ok (payload.Reply a b c d r) refl ((f_a, f_b, f_c, f_d, f_r.0), f_r.1))))))
 
-reply_payload_stable : IsStable reply_payload_at
-unfolding reply_payload_at
+reply_payload_stable : IsStable packets.reply_payload_at
+unfolding packets.reply_payload_at
 reply_payload_stable = stable_bind _ u64_reads.stable (λ a. stable_bind _ u64_reads.stable (λ b. stable_bind _ u64_reads.stable (λ c. stable_bind _ u64_reads.stable (λ d. stable_bind _ reply_reads.stable (λ r. stable_ok (payload.Reply a b c d r))))))
 
-query_payload_exact : IsExact payload_bytes IsPayload (9 ∷ []) query_payload_at
-unfolding query_payload_at
+query_payload_exact : IsExact wire_spelling.payload_bytes IsPayload (9 ∷ []) packets.query_payload_at
+unfolding packets.query_payload_at
 query_payload_exact = exact_bind _ client_reads.exact (λ a f_a. exact_bind _ u64_reads.exact (λ b f_b. exact_bind _ u64_reads.exact (λ c f_c. exact_bind _ level_reads.exact (λ l f_l. exact_bind _ u64_reads.exact (λ d f_d. exact_bind _ u64_reads.exact (λ e f_e. exact_bind _ name_reads.exact (λ n f_n. exact_bind _ query_reads.exact (λ q f_q. exact_ok (payload.Query a b c l d e n q) refl ((f_a, f_b, f_c, f_d, f_e, f_n, f_q), refl)))))))))
 
-query_payload_stable : IsStable query_payload_at
-unfolding query_payload_at
+query_payload_stable : IsStable packets.query_payload_at
+unfolding packets.query_payload_at
 query_payload_stable = stable_bind _ client_reads.stable (λ a. stable_bind _ u64_reads.stable (λ b. stable_bind _ u64_reads.stable (λ c. stable_bind _ level_reads.stable (λ l. stable_bind _ u64_reads.stable (λ d. stable_bind _ u64_reads.stable (λ e. stable_bind _ name_reads.stable (λ n. stable_bind _ query_reads.stable (λ q. stable_ok (payload.Query a b c l d e n q)))))))))
 
-batch_exact : IsExact payload_bytes IsPayload (16 ∷ []) batch_at
-unfolding batch_at
+batch_exact : IsExact wire_spelling.payload_bytes IsPayload (16 ∷ []) packets.batch_at
+unfolding packets.batch_at
 batch_exact = exact_bind _ u64_reads.exact (λ a f_a. exact_bind _ u64_reads.exact (λ b f_b. exact_bind _ u64_reads.exact (λ c f_c. exact_bind _ events_reads.exact (λ e f_e. exact_ok (payload.Batch a b c e) refl ((f_a, f_b, f_c, f_e.0), f_e.1)))))
 
-batch_stable : IsStable batch_at
-unfolding batch_at
+batch_stable : IsStable packets.batch_at
+unfolding packets.batch_at
 batch_stable = stable_bind _ u64_reads.stable (λ a. stable_bind _ u64_reads.stable (λ b. stable_bind _ u64_reads.stable (λ c. stable_bind _ events_reads.stable (λ e. stable_ok (payload.Batch a b c e)))))
 
-append_exact : IsExact payload_bytes IsPayload (3 ∷ []) append_at
-unfolding append_at
+append_exact : IsExact wire_spelling.payload_bytes IsPayload (3 ∷ []) packets.append_at
+unfolding packets.append_at
 append_exact = exact_bind _ u64_reads.exact (λ a fa. exact_bind _ u64_reads.exact (λ b fb. exact_bind _ u64_reads.exact (λ c fc. exact_bind _ u64_reads.exact (λ d fd. exact_bind _ u64_reads.exact (λ e fe.
     exact_bind _ (small_reads 0 16 (omega arith)).exact (λ count fn. exact_bind _ (many_reads count entry_reads).exact (λ entries fs.
     exact_ok (payload.Append a b c d e entries) (append_spelled a b c d e count entries fs.0) ((fa, fb, fc, fd, fe, fs.1), le-leb _ _ (omega (arith, fs.0, fn.1))))))))))
   where
     append_spelled : (a b c d e count : ℕ) (entries : List Entry) → length entries ≡ count
-        → (3 ∷ u64_bytes a) ++ u64_bytes b ++ u64_bytes c ++ u64_bytes d ++ u64_bytes e ++ (count ∷ []) ++ flat_map entry_bytes entries ≡ payload_bytes (payload.Append a b c d e entries)
-    append_spelled a b c d e count entries is_count = rw (← is_count) (append_assoc ((3 ∷ u64_bytes a) ++ u64_bytes b ++ u64_bytes c ++ u64_bytes d ++ u64_bytes e) (length entries ∷ []) (flat_map entry_bytes entries))
+        → (3 ∷ number_bytes.u64_bytes a) ++ number_bytes.u64_bytes b ++ number_bytes.u64_bytes c ++ number_bytes.u64_bytes d ++ number_bytes.u64_bytes e ++ (count ∷ []) ++ flat_map wire_spelling.entry_bytes entries ≡ wire_spelling.payload_bytes (payload.Append a b c d e entries)
+    append_spelled a b c d e count entries is_count = rw (← is_count) (append_assoc ((3 ∷ number_bytes.u64_bytes a) ++ number_bytes.u64_bytes b ++ number_bytes.u64_bytes c ++ number_bytes.u64_bytes d ++ number_bytes.u64_bytes e) (length entries ∷ []) (flat_map wire_spelling.entry_bytes entries))
 
-append_stable : IsStable append_at
-unfolding append_at
+append_stable : IsStable packets.append_at
+unfolding packets.append_at
 append_stable = stable_bind _ u64_reads.stable (λ a. stable_bind _ u64_reads.stable (λ b. stable_bind _ u64_reads.stable (λ c. stable_bind _ u64_reads.stable (λ d. stable_bind _ u64_reads.stable (λ e.
     stable_bind _ (small_reads 0 16 (omega arith)).stable (λ count. stable_bind _ (many_reads count entry_reads).stable (λ entries. stable_ok (payload.Append a b c d e entries))))))))
 
-answer_exact : IsExact payload_bytes IsPayload (15 ∷ []) answer_at
-unfolding answer_at
+answer_exact : IsExact wire_spelling.payload_bytes IsPayload (15 ∷ []) packets.answer_at
+unfolding packets.answer_at
 answer_exact = exact_bind _ u64_reads.exact (λ a fa. exact_bind _ u64_reads.exact (λ b fb. exact_bind _ level_reads.exact (λ l fl. exact_bind _ u64_reads.exact (λ c fc. exact_bind _ u64_reads.exact (λ d fd.
     exact_bind _ (reach_reads l).exact (λ t ft. exact_bind _ (reach_reads l).exact (λ i fi. exact_bind _ reply_reads.exact (λ r fr.
     let numbers = reach_numbers l t i ft fi in
-    exact_ok (payload.Answer a b l c d t i r) refl ((fa, fb, fc, fd, numbers.0, numbers.1, fr.0), both (reach_is_spelled l t i) (reply_is_spelled r) numbers.2 fr.1)))))))))
+    exact_ok (payload.Answer a b l c d t i r) refl ((fa, fb, fc, fd, numbers.0, numbers.1, fr.0), both (wire_spelling.reach_is_spelled l t i) (wire_spelling.reply_is_spelled r) numbers.2 fr.1)))))))))
 
-answer_stable : IsStable answer_at
-unfolding answer_at
+answer_stable : IsStable packets.answer_at
+unfolding packets.answer_at
 answer_stable = stable_bind _ u64_reads.stable (λ a. stable_bind _ u64_reads.stable (λ b. stable_bind _ level_reads.stable (λ l. stable_bind _ u64_reads.stable (λ c. stable_bind _ u64_reads.stable (λ d.
     stable_bind _ (reach_reads l).stable (λ t. stable_bind _ (reach_reads l).stable (λ i. stable_bind _ reply_reads.stable (λ r. stable_ok (payload.Answer a b l c d t i r)))))))))
 
-pub payload_reads : Reads payload_at payload_bytes IsPayload
-unfolding payload_at
+pub payload_reads : Reads packets.payload_at wire_spelling.payload_bytes IsPayload
+unfolding packets.payload_at
 payload_reads = record {
   again = payload_again;
   exact = exact_bind _ exact_byte (λ n fn.

@@ -20,20 +20,20 @@ use Rattle.ax_types.specs.declared.ops.TopicQuery.{TopicQuery}
 use Rattle.ax_types.specs.declared.ops.TopicQuery.TheVariants as topic_query
 use Rattle.ax_types.specs.declared.ops.Query.{Query}
 use Rattle.ax_types.specs.declared.ops.Query.TheVariants as query
-use Rattle.spec_wire.specs.Ranges.{FitsMapQuery, FitsSetQuery, FitsMultimapQuery, FitsQuery}
-use Rattle.spec_wire.specs.Resources.{map_query_bytes, lock_query_bytes, group_query_bytes, set_query_bytes, queue_query_bytes, multimap_query_bytes, query_bytes}
-use Rattle.spec_reading.specs.Queries.{map_query_at, value_query_at, long_query_at, lock_query_at, group_query_at, set_query_at, queue_query_at, multimap_query_at, topic_query_at, query_at}
+use Rattle.spec_wire.specs.Ranges as ranges
+use Rattle.spec_wire.specs.OperationBytes as operation_bytes
+use Rattle.spec_reading.specs.ReadQueries as read_queries
 use Rattle.spec_reading.proofs.Readers.{Reads, exact_bind, exact_ok, exact_wrong, exact_tag, exact_byte, exact_one, exact_two, stable_bind, stable_ok, stable_wrong, stable_if, stable_byte, stable_one, stable_two, again_one, again_two}
 use Rattle.spec_reading.proofs.Fields.{name_reads, text_reads}
 
-map_query_again : (x : MapQuery) (rest : List ℕ) → FitsMapQuery x → map_query_at (map_query_bytes x ++ rest) ≡ Ok (x, rest)
-unfolding map_query_at
+map_query_again : (x : MapQuery) (rest : List ℕ) → ranges.FitsMapQuery x → read_queries.map_query_at (operation_bytes.map_query_bytes x ++ rest) ≡ Ok (x, rest)
+unfolding read_queries.map_query_at
 map_query_again (map_query.Get a) rest fa = again_one map_query.Get name_reads a rest fa
 map_query_again (map_query.Contains a) rest fa = again_one map_query.Contains name_reads a rest fa
 map_query_again map_query.Size rest fits = refl
 
-pub map_query_reads : Reads map_query_at map_query_bytes FitsMapQuery
-unfolding map_query_at
+pub map_query_reads : Reads read_queries.map_query_at operation_bytes.map_query_bytes ranges.FitsMapQuery
+unfolding read_queries.map_query_at
 map_query_reads = record {
   again = map_query_again;
   exact = exact_bind _ exact_byte (λ n fn.
@@ -54,12 +54,12 @@ AnyValueQuery x = Unit {0}
 abbrev value_query_bytes : ValueQuery → List ℕ
 value_query_bytes value_query.Get = 1 ∷ []
 
-value_query_again : (x : ValueQuery) (rest : List ℕ) → AnyValueQuery x → value_query_at (value_query_bytes x ++ rest) ≡ Ok (x, rest)
-unfolding value_query_at
+value_query_again : (x : ValueQuery) (rest : List ℕ) → AnyValueQuery x → read_queries.value_query_at (value_query_bytes x ++ rest) ≡ Ok (x, rest)
+unfolding read_queries.value_query_at
 value_query_again value_query.Get rest fits = refl
 
-pub value_query_reads : Reads value_query_at value_query_bytes AnyValueQuery
-unfolding value_query_at
+pub value_query_reads : Reads read_queries.value_query_at value_query_bytes AnyValueQuery
+unfolding read_queries.value_query_at
 value_query_reads = record {
   again = value_query_again;
   exact = exact_bind _ exact_byte (λ n fn.
@@ -76,12 +76,12 @@ AnyLongQuery x = Unit {0}
 abbrev long_query_bytes : LongQuery → List ℕ
 long_query_bytes long_query.Get = 1 ∷ []
 
-long_query_again : (x : LongQuery) (rest : List ℕ) → AnyLongQuery x → long_query_at (long_query_bytes x ++ rest) ≡ Ok (x, rest)
-unfolding long_query_at
+long_query_again : (x : LongQuery) (rest : List ℕ) → AnyLongQuery x → read_queries.long_query_at (long_query_bytes x ++ rest) ≡ Ok (x, rest)
+unfolding read_queries.long_query_at
 long_query_again long_query.Get rest fits = refl
 
-pub long_query_reads : Reads long_query_at long_query_bytes AnyLongQuery
-unfolding long_query_at
+pub long_query_reads : Reads read_queries.long_query_at long_query_bytes AnyLongQuery
+unfolding read_queries.long_query_at
 long_query_reads = record {
   again = long_query_again;
   exact = exact_bind _ exact_byte (λ n fn.
@@ -95,13 +95,13 @@ long_query_reads = record {
 abbrev AnyLockQuery : LockQuery → Type 0
 AnyLockQuery x = Unit {0}
 
-lock_query_again : (x : LockQuery) (rest : List ℕ) → AnyLockQuery x → lock_query_at (lock_query_bytes x ++ rest) ≡ Ok (x, rest)
-unfolding lock_query_at
+lock_query_again : (x : LockQuery) (rest : List ℕ) → AnyLockQuery x → read_queries.lock_query_at (operation_bytes.lock_query_bytes x ++ rest) ≡ Ok (x, rest)
+unfolding read_queries.lock_query_at
 lock_query_again lock_query.Holder rest fits = refl
 lock_query_again lock_query.Waiting rest fits = refl
 
-pub lock_query_reads : Reads lock_query_at lock_query_bytes AnyLockQuery
-unfolding lock_query_at
+pub lock_query_reads : Reads read_queries.lock_query_at operation_bytes.lock_query_bytes AnyLockQuery
+unfolding read_queries.lock_query_at
 lock_query_reads = record {
   again = lock_query_again;
   exact = exact_bind _ exact_byte (λ n fn.
@@ -117,13 +117,13 @@ lock_query_reads = record {
 abbrev AnyGroupQuery : GroupQuery → Type 0
 AnyGroupQuery x = Unit {0}
 
-group_query_again : (x : GroupQuery) (rest : List ℕ) → AnyGroupQuery x → group_query_at (group_query_bytes x ++ rest) ≡ Ok (x, rest)
-unfolding group_query_at
+group_query_again : (x : GroupQuery) (rest : List ℕ) → AnyGroupQuery x → read_queries.group_query_at (operation_bytes.group_query_bytes x ++ rest) ≡ Ok (x, rest)
+unfolding read_queries.group_query_at
 group_query_again group_query.Members rest fits = refl
 group_query_again group_query.Leader rest fits = refl
 
-pub group_query_reads : Reads group_query_at group_query_bytes AnyGroupQuery
-unfolding group_query_at
+pub group_query_reads : Reads read_queries.group_query_at operation_bytes.group_query_bytes AnyGroupQuery
+unfolding read_queries.group_query_at
 group_query_reads = record {
   again = group_query_again;
   exact = exact_bind _ exact_byte (λ n fn.
@@ -136,13 +136,13 @@ group_query_reads = record {
       stable_wrong)));
 }
 
-set_query_again : (x : SetQuery) (rest : List ℕ) → FitsSetQuery x → set_query_at (set_query_bytes x ++ rest) ≡ Ok (x, rest)
-unfolding set_query_at
+set_query_again : (x : SetQuery) (rest : List ℕ) → ranges.FitsSetQuery x → read_queries.set_query_at (operation_bytes.set_query_bytes x ++ rest) ≡ Ok (x, rest)
+unfolding read_queries.set_query_at
 set_query_again (set_query.Contains a) rest fa = again_one set_query.Contains text_reads a rest fa
 set_query_again set_query.Size rest fits = refl
 
-pub set_query_reads : Reads set_query_at set_query_bytes FitsSetQuery
-unfolding set_query_at
+pub set_query_reads : Reads read_queries.set_query_at operation_bytes.set_query_bytes ranges.FitsSetQuery
+unfolding read_queries.set_query_at
 set_query_reads = record {
   again = set_query_again;
   exact = exact_bind _ exact_byte (λ n fn.
@@ -158,13 +158,13 @@ set_query_reads = record {
 abbrev AnyQueueQuery : QueueQuery → Type 0
 AnyQueueQuery x = Unit {0}
 
-queue_query_again : (x : QueueQuery) (rest : List ℕ) → AnyQueueQuery x → queue_query_at (queue_query_bytes x ++ rest) ≡ Ok (x, rest)
-unfolding queue_query_at
+queue_query_again : (x : QueueQuery) (rest : List ℕ) → AnyQueueQuery x → read_queries.queue_query_at (operation_bytes.queue_query_bytes x ++ rest) ≡ Ok (x, rest)
+unfolding read_queries.queue_query_at
 queue_query_again queue_query.Peek rest fits = refl
 queue_query_again queue_query.Size rest fits = refl
 
-pub queue_query_reads : Reads queue_query_at queue_query_bytes AnyQueueQuery
-unfolding queue_query_at
+pub queue_query_reads : Reads read_queries.queue_query_at operation_bytes.queue_query_bytes AnyQueueQuery
+unfolding read_queries.queue_query_at
 queue_query_reads = record {
   again = queue_query_again;
   exact = exact_bind _ exact_byte (λ n fn.
@@ -177,14 +177,14 @@ queue_query_reads = record {
       stable_wrong)));
 }
 
-multimap_query_again : (x : MultimapQuery) (rest : List ℕ) → FitsMultimapQuery x → multimap_query_at (multimap_query_bytes x ++ rest) ≡ Ok (x, rest)
-unfolding multimap_query_at
+multimap_query_again : (x : MultimapQuery) (rest : List ℕ) → ranges.FitsMultimapQuery x → read_queries.multimap_query_at (operation_bytes.multimap_query_bytes x ++ rest) ≡ Ok (x, rest)
+unfolding read_queries.multimap_query_at
 multimap_query_again (multimap_query.Contains a b) rest (fa, fb) = again_two multimap_query.Contains name_reads text_reads a b rest fa fb
 multimap_query_again (multimap_query.Count a) rest fa = again_one multimap_query.Count name_reads a rest fa
 multimap_query_again multimap_query.Size rest fits = refl
 
-pub multimap_query_reads : Reads multimap_query_at multimap_query_bytes FitsMultimapQuery
-unfolding multimap_query_at
+pub multimap_query_reads : Reads read_queries.multimap_query_at operation_bytes.multimap_query_bytes ranges.FitsMultimapQuery
+unfolding read_queries.multimap_query_at
 multimap_query_reads = record {
   again = multimap_query_again;
   exact = exact_bind _ exact_byte (λ n fn.
@@ -205,12 +205,12 @@ AnyTopicQuery x = Unit {0}
 abbrev topic_query_bytes : TopicQuery → List ℕ
 topic_query_bytes topic_query.Subscribers = 1 ∷ []
 
-topic_query_again : (x : TopicQuery) (rest : List ℕ) → AnyTopicQuery x → topic_query_at (topic_query_bytes x ++ rest) ≡ Ok (x, rest)
-unfolding topic_query_at
+topic_query_again : (x : TopicQuery) (rest : List ℕ) → AnyTopicQuery x → read_queries.topic_query_at (topic_query_bytes x ++ rest) ≡ Ok (x, rest)
+unfolding read_queries.topic_query_at
 topic_query_again topic_query.Subscribers rest fits = refl
 
-pub topic_query_reads : Reads topic_query_at topic_query_bytes AnyTopicQuery
-unfolding topic_query_at
+pub topic_query_reads : Reads read_queries.topic_query_at topic_query_bytes AnyTopicQuery
+unfolding read_queries.topic_query_at
 topic_query_reads = record {
   again = topic_query_again;
   exact = exact_bind _ exact_byte (λ n fn.
@@ -221,17 +221,17 @@ topic_query_reads = record {
       stable_wrong));
 }
 
-value_query_spelled : (a : ValueQuery) → 2 ∷ value_query_bytes a ≡ query_bytes (query.Value a)
+value_query_spelled : (a : ValueQuery) → 2 ∷ value_query_bytes a ≡ operation_bytes.query_bytes (query.Value a)
 value_query_spelled value_query.Get = refl
 
-long_query_spelled : (a : LongQuery) → 3 ∷ long_query_bytes a ≡ query_bytes (query.Long a)
+long_query_spelled : (a : LongQuery) → 3 ∷ long_query_bytes a ≡ operation_bytes.query_bytes (query.Long a)
 long_query_spelled long_query.Get = refl
 
-topic_query_spelled : (a : TopicQuery) → 9 ∷ topic_query_bytes a ≡ query_bytes (query.Topic a)
+topic_query_spelled : (a : TopicQuery) → 9 ∷ topic_query_bytes a ≡ operation_bytes.query_bytes (query.Topic a)
 topic_query_spelled topic_query.Subscribers = refl
 
-query_again : (x : Query) (rest : List ℕ) → FitsQuery x → query_at (query_bytes x ++ rest) ≡ Ok (x, rest)
-unfolding query_at value_query_at long_query_at topic_query_at
+query_again : (x : Query) (rest : List ℕ) → ranges.FitsQuery x → read_queries.query_at (operation_bytes.query_bytes x ++ rest) ≡ Ok (x, rest)
+unfolding read_queries.query_at read_queries.value_query_at read_queries.long_query_at read_queries.topic_query_at
 query_again (query.Map a) rest fa = again_one query.Map map_query_reads a rest fa
 query_again (query.Value value_query.Get) rest fa = refl
 query_again (query.Long long_query.Get) rest fa = refl
@@ -242,8 +242,8 @@ query_again (query.Queue a) rest fa = again_one query.Queue queue_query_reads a 
 query_again (query.Multimap a) rest fa = again_one query.Multimap multimap_query_reads a rest fa
 query_again (query.Topic topic_query.Subscribers) rest fa = refl
 
-pub query_reads : Reads query_at query_bytes FitsQuery
-unfolding query_at
+pub query_reads : Reads read_queries.query_at operation_bytes.query_bytes ranges.FitsQuery
+unfolding read_queries.query_at
 query_reads = record {
   again = query_again;
   exact = exact_bind _ exact_byte (λ n fn.

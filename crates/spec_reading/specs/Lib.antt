@@ -1,6 +1,5 @@
 pub mod Reading
-pub mod Operations
-pub mod Queries
-pub mod Answers
+pub mod ReadOperations
+pub mod ReadQueries
+pub mod ReadReplies
 pub mod Packets
-pub mod Rows

@@ -2,9 +2,9 @@
 use Rattle.std.specs.Prelude.{ℕ, ◌<◌, slice_index, zero, suc, ℤ, Bool, true, false, List, [], ◌∷◌, ◌++◌, ◌-◌, length, take, drop, replicate, Result, Ok, Err, Option, Some, None, nat_lt, nat_le, nat_eq, ◌&&◌, if◌then◌else◌}
 use Rattle.std.specs.List.{list_all}
 use Rattle.std.specs.Int.{w32, w64, from_be_bytes, cast_signed}
-use Rattle.ax_types.specs.Forms.{is_name_byte, is_text_byte}
-use Rattle.ax_types.specs.declared.ids.TheConstants.{MAX_CLIENTS}
-use Rattle.ax_types.specs.declared.names.TheConstants.{MAX_NAME, MAX_TEXT, MAX_LIFE}
+use Rattle.ax_types.specs.Letters as ax_types_letters
+use Rattle.ax_types.specs.declared.limits.TheConstants.{MAX_CLIENTS}
+use Rattle.ax_types.specs.declared.limits.TheConstants.{MAX_NAME, MAX_TEXT, MAX_LIFE}
 
 -- each number is a byte
 abbrev pub IsBytes : List ℕ → Type 0
@@ -84,10 +84,10 @@ counted_at is most bytes = do
 
 -- a name or a key
 abbrev pub name_at : List ℕ → Reading (List ℕ)
-name_at = counted_at is_name_byte MAX_NAME
+name_at = counted_at ax_types_letters.is_name_byte MAX_NAME
 
 abbrev pub text_at : List ℕ → Reading (List ℕ)
-text_at = counted_at is_text_byte MAX_TEXT
+text_at = counted_at ax_types_letters.is_text_byte MAX_TEXT
 
 abbrev pub life_at : List ℕ → Reading ℕ
 life_at = within_at 1 MAX_LIFE

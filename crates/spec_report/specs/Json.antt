@@ -4,8 +4,8 @@ use Rattle.serde_json.specs.Data.{Data, Items, unsigned, number, string, array, 
 use Rattle.serde_json.specs.View.{items_of}
 use Rattle.serde_json.specs.Written.{compact_text}
 use Rattle.ax_types.specs.declared.scripts.Report.{Report}
-use Rattle.spec_report.specs.Items.{item_line, waiting_line}
-use Rattle.spec_report.specs.Report.{act_lines, end_word}
+use Rattle.spec_report.specs.Items as report_items
+use Rattle.spec_report.specs.Report as reports
 
 -- lines as strings
 abbrev pub strings_of : List (List ℕ) → Items
@@ -24,10 +24,10 @@ report_object end history items waiting = object
 -- the object of a report: its lists hold the lines, without their newlines
 abbrev pub report_data : Report → Data
 report_data report = report_object
-    (end_word report.end)
-    (array (strings_of (act_lines 1 report.history)))
-    (array (strings_of (map item_line report.items)))
-    (array (strings_of (map waiting_line report.waiting)))
+    (reports.end_word report.end)
+    (array (strings_of (reports.act_lines 1 report.history)))
+    (array (strings_of (map report_items.item_line report.items)))
+    (array (strings_of (map report_items.waiting_line report.waiting)))
 
 abbrev pub json_text : Report → List ℕ
 json_text report = compact_text (report_data report) ++ (10 ∷ [])

@@ -1,4 +1,4 @@
-pub mod Calls
+pub mod CallLines
 pub mod Replies
 pub mod Items
 pub mod Report

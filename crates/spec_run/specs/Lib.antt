@@ -1,2 +1,2 @@
-pub mod Runs
-pub mod Stores
+pub mod Run
+pub mod KeptStores

@@ -7,8 +7,8 @@ use Rattle.std.proofs.lemmas.List.Splits.{slice_split_first, slice_split_none}
 use Rattle.std.proofs.lemmas.List.Sums.{fails_before_first}
 use Rattle.ax_types.specs.declared.statuses.Why.{Why}
 use Rattle.ax_types.specs.declared.statuses.Why.TheVariants as why
-use Rattle.spec_text.specs.Numbers.{words_of}
-use Rattle.spec_script.specs.Scripts.{Draft, Place, after_cluster, after_first, at_line, cluster_of, in_limits, is_skipped, unless_refused, first_bytes, holds_last_byte, is_empty, is_too_long, judged_bytes, longest_script}
+use Rattle.spec_text.specs.Words as text_words
+use Rattle.spec_script.specs.Scripts as scripts
 
 -- whether the byte is a newline
 abbrev pub newline : ℕ → Bool
@@ -33,69 +33,69 @@ split_without_newline bs h =
     let beyond : length bs ≤ position_or_len newline bs = missed (position_or_len newline bs) (length bs) h in
     slice_split_none newline bs (λ k d l. fails_before_first newline bs k d (omega arith))
 
-some_line : (b : ℕ) (parts : List (List ℕ)) → is_empty (onto_first b parts) ≡ false
+some_line : (b : ℕ) (parts : List (List ℕ)) → scripts.is_empty (onto_first b parts) ≡ false
 some_line b [] = refl
 some_line b (part ∷ parts) = refl
 
 -- there is always a line
-pub is_empty-split : (bs : List ℕ) → is_empty (slice_split newline bs) ≡ false
+pub is_empty-split : (bs : List ℕ) → scripts.is_empty (slice_split newline bs) ≡ false
 is_empty-split [] = refl
-is_empty-split (b ∷ bs) = elim (newline b) as (λ v. is_empty (cond v ([] ∷ slice_split newline bs) (onto_first b (slice_split newline bs))) ≡ false) [
+is_empty-split (b ∷ bs) = elim (newline b) as (λ v. scripts.is_empty (cond v ([] ∷ slice_split newline bs) (onto_first b (slice_split newline bs))) ≡ false) [
   | true ↦ refl
   | false ↦ some_line b (slice_split newline bs)
 ]
 
-two_lines : (parts : List (List ℕ)) → is_empty parts ≡ false → holds_last_byte ([] ∷ parts) ≡ false
+two_lines : (parts : List (List ℕ)) → scripts.is_empty parts ≡ false → scripts.holds_last_byte ([] ∷ parts) ≡ false
 two_lines [] h = cc
 two_lines (part ∷ parts) h = refl
 
-longer : (b : ℕ) (parts : List (List ℕ)) → holds_last_byte (onto_first b parts) ≡ false
+longer : (b : ℕ) (parts : List (List ℕ)) → scripts.holds_last_byte (onto_first b parts) ≡ false
 longer b [] = refl
 longer b (part ∷ parts) = refl
 
 -- no byte is left where the lines have none
-pub holds_last_byte-split : (bs : List ℕ) → holds_last_byte (slice_split newline bs) ≡ (length bs == 0)
+pub holds_last_byte-split : (bs : List ℕ) → scripts.holds_last_byte (slice_split newline bs) ≡ (length bs == 0)
 holds_last_byte-split [] = refl
 holds_last_byte-split (b ∷ bs) =
     let more : (length (b ∷ bs) == 0) ≡ false = grind (arith, nat_tests) in
-    elim (newline b) as (λ v. holds_last_byte (cond v ([] ∷ slice_split newline bs) (onto_first b (slice_split newline bs))) ≡ false) [
+    elim (newline b) as (λ v. scripts.holds_last_byte (cond v ([] ∷ slice_split newline bs) (onto_first b (slice_split newline bs))) ≡ false) [
       | true ↦ two_lines (slice_split newline bs) (is_empty-split bs)
       | false ↦ longer b (slice_split newline bs)
     ] ∙ sym more
 
 -- all bytes are judged where they are not too many
-pub judged_bytes-all : (bs : List ℕ) → length bs ≤ 1048576 → judged_bytes bs ≡ bs
-unfolding is_too_long longest_script
+pub judged_bytes-all : (bs : List ℕ) → length bs ≤ 1048576 → scripts.judged_bytes bs ≡ bs
+unfolding scripts.is_too_long scripts.longest_script
 judged_bytes-all bs h =
     let few : nat_lt 1048576 (length bs) ≡ false = grind (arith, nat_tests) in
-    ap (λ v. first_bytes v bs) few
+    ap (λ v. scripts.bytes_up_to_limit v bs) few
 
-pub judged_bytes-first : (bs : List ℕ) → 1048576 < length bs → judged_bytes bs ≡ take 1048577 bs
-unfolding is_too_long longest_script
+pub judged_bytes-first : (bs : List ℕ) → 1048576 < length bs → scripts.judged_bytes bs ≡ take 1048577 bs
+unfolding scripts.is_too_long scripts.longest_script
 judged_bytes-first bs h =
     let many : nat_lt 1048576 (length bs) ≡ true = grind (arith, nat_tests) in
-    ap (λ v. first_bytes v bs) many
+    ap (λ v. scripts.bytes_up_to_limit v bs) many
 
-pub is_too_long-is : (bs : List ℕ) → is_too_long bs ≡ nat_lt 1048576 (length bs)
-unfolding is_too_long longest_script
+pub is_too_long-is : (bs : List ℕ) → scripts.is_too_long bs ≡ nat_lt 1048576 (length bs)
+unfolding scripts.is_too_long scripts.longest_script
 is_too_long-is bs = refl
 
-limited : (o : Option Why) (d : Draft) → unless_refused o (Ok (Some d)) ≡ Ok None → ⊥
+limited : (o : Option Why) (d : scripts.Draft) → scripts.unless_refused o (Ok (Some d)) ≡ Ok None → ⊥
 limited None d h = cc
 limited (Some reason) d h = cc
 
-read : (p : Place) (l : List ℕ) (o : Option Draft) → after_cluster p l o ≡ Ok None → ⊥
+read : (p : scripts.LinePosition) (l : List ℕ) (o : Option scripts.Draft) → scripts.after_cluster p l o ≡ Ok None → ⊥
 read p l None h = cc
-read p l (Some d) h = limited (in_limits p.is_past l) (at_line p.number d) h
+read p l (Some d) h = limited (scripts.in_limits p.is_past l) (scripts.at_line p.number d) h
 
-last : (skipped is_last : Bool) (skip words : Result (Option Draft) Why) → is_last ≡ true → (words ≡ Ok None → ⊥)
+last : (skipped is_last : Bool) (skip words : Result (Option scripts.Draft) Why) → is_last ≡ true → (words ≡ Ok None → ⊥)
     → (if skipped then (if is_last then Err why.Cluster else skip) else words) ≡ Ok None → ⊥
 last true true skip words e f h = cc
 last true false skip words e f h = cc
 last false is_last skip words e f h = f h
 
 -- the cluster line is not due behind the last line
-pub after_first-last : (p : Place) (l : List ℕ) → p.is_last ≡ true → after_first p l ≡ Ok None → ⊥
+pub after_first-last : (p : scripts.LinePosition) (l : List ℕ) → p.is_last ≡ true → scripts.after_first p l ≡ Ok None → ⊥
 after_first-last p l e h =
-    last (is_skipped l) p.is_last (unless_refused (in_limits p.is_past l) (Ok None)) (after_cluster p l (cluster_of (words_of l))) e
-    (read p l (cluster_of (words_of l))) h
+    last (scripts.is_skipped l) p.is_last (scripts.unless_refused (scripts.in_limits p.is_past l) (Ok None)) (scripts.after_cluster p l (scripts.cluster_draft (text_words.words_of l))) e
+    (read p l (scripts.cluster_draft (text_words.words_of l))) h

@@ -1,3 +1,2 @@
-pub mod Steps
+pub mod StepLines
 pub mod Scripts
-pub mod Examples

@@ -1,6 +1,7 @@
 -- How bytes are read as a script, and which line is refused and why where they are none.
 use Rattle.std.specs.Prelude.{ℕ, ◌+◌, ◌-◌, ◌==◌, ◌&&◌, Bool, true, false, not, nat_lt, min, max, List, [], ◌∷◌, ◌++◌, length, take, replicate, slice_index, slice_set, Option, Some, None, option_map, option_and_then, Result, Ok, Err, if◌then◌else◌, codes, bytes_eq}
 use Rattle.std.specs.List.{slice_split}
+use Rattle.ax_types.specs.declared.limits.TheConstants.{MAX_SCRIPT, MAX_LINE, MAX_CALLS, MAX_ROUND}
 use Rattle.ax_types.specs.declared.ops.WindowCall.{WindowCall}
 use Rattle.ax_types.specs.declared.scripts.Line.{Line}
 use Rattle.ax_types.specs.declared.scripts.Line.TheVariants as line
@@ -10,9 +11,9 @@ use Rattle.ax_types.specs.declared.statuses.Why.TheVariants as why
 use Rattle.ax_types.specs.declared.steps.Step.{Step}
 use Rattle.ax_types.specs.declared.steps.Step.TheVariants as step
 use Rattle.ax_types.specs.declared.steps.WatchKind.{WatchKind}
-use Rattle.spec_text.specs.Numbers.{Word, both, client_of, number_within, node_of, timeout_of, words_of}
-use Rattle.spec_text.specs.Operations.{call_of, without_operands}
-use Rattle.spec_script.specs.Steps.{client_and_watch, only_node, step_of}
+use Rattle.spec_text.specs.Words as text_words
+use Rattle.spec_text.specs.OperationWords as operation_words
+use Rattle.spec_script.specs.StepLines as step_lines
 
 -- ---- one line
 
@@ -44,25 +45,25 @@ new_draft nodes clients timeout = record {
 }
 
 -- by the three words of a cluster line that are always the same
-abbrev pub is_cluster_line : Word → Word → Word → Bool
+abbrev pub is_cluster_line : text_words.Word → text_words.Word → text_words.Word → Bool
 is_cluster_line a b c = bytes_eq a (codes "cluster") && (bytes_eq b (codes "clients") && bytes_eq c (codes "timeout"))
 
 -- by its numbers of nodes and clients and its timeout
-abbrev pub sized_draft : Word → Word → Word → Option Draft
-sized_draft n m t = option_and_then (λ nodes. both (new_draft nodes) (client_of 16 m) (timeout_of t)) (node_of 9 n)
+abbrev pub sized_draft : text_words.Word → text_words.Word → text_words.Word → Option Draft
+sized_draft n m t = option_and_then (λ nodes. text_words.both (new_draft nodes) (text_words.client_of 16 m) (text_words.timeout_of t)) (text_words.node_of 9 n)
 
 -- `cluster N clients M timeout T`
-abbrev pub cluster_of : List Word → Option Draft
-cluster_of (a ∷ n ∷ b ∷ m ∷ c ∷ t ∷ []) = if is_cluster_line a b c then sized_draft n m t else None
-cluster_of _ = None
+abbrev pub cluster_draft : List text_words.Word → Option Draft
+cluster_draft (a ∷ n ∷ b ∷ m ∷ c ∷ t ∷ []) = if is_cluster_line a b c then sized_draft n m t else None
+cluster_draft _ = None
 
 -- a line after the cluster line that `run` takes: a step, `flush` or `settle K`
-abbrev pub line_of : ℕ → ℕ → List Word → Option Line
+abbrev pub line_of : ℕ → ℕ → List text_words.Word → Option Line
 line_of nodes clients [] = None
 line_of nodes clients (w ∷ ws) =
-    if bytes_eq w (codes "flush") then without_operands line.Flush ws
-    else if bytes_eq w (codes "settle") then option_map line.Settle (only_node nodes ws)
-    else option_map line.Do (step_of nodes clients (w ∷ ws))
+    if bytes_eq w (codes "flush") then operation_words.without_operands line.Flush ws
+    else if bytes_eq w (codes "settle") then option_map line.Settle (step_lines.only_node nodes ws)
+    else option_map line.Do (step_lines.step_of nodes clients (w ∷ ws))
 
 abbrev pub is_empty : {A : Type 0} → List A → Bool
 is_empty [] = true
@@ -76,7 +77,7 @@ is_set_up s = not (is_empty s.callers && (is_empty s.plan && is_empty s.feeds))
 abbrev pub with_line : ℕ → Draft → Line → Draft
 with_line number d l = record d { script = record d.script { lines = d.script.lines ++ (number, l) ∷ [] } }
 
-abbrev pub after_set_up_line : ℕ → List Word → Draft → Option Draft
+abbrev pub after_set_up_line : ℕ → List text_words.Word → Draft → Option Draft
 after_set_up_line number ws d =
     if is_set_up d.script then None
     else option_map (with_line number d) (line_of d.script.nodes d.script.clients ws)
@@ -91,17 +92,17 @@ with_caller number d caller count call = record {
 }
 
 -- a caller's number: it is known, or the next one
-abbrev pub caller_of : Draft → Word → Option ℕ
-caller_of d w = number_within 1 (min 16 (d.callers + 1)) w
+abbrev pub caller_of : Draft → text_words.Word → Option ℕ
+caller_of d w = text_words.number_within 1 (min 16 (d.callers + 1)) w
 
 -- a number of calls: the caller has 10,000 calls at most
-abbrev pub count_of : Draft → ℕ → Word → Option ℕ
-count_of d caller w = number_within 1 (10000 - slice_index d.totals (caller - 1)) w
+abbrev pub count_of : Draft → ℕ → text_words.Word → Option ℕ
+count_of d caller w = text_words.number_within 1 (MAX_CALLS - slice_index d.totals (caller - 1)) w
 
 -- `caller I N CALL`, behind its first word
-abbrev pub after_caller : ℕ → List Word → Draft → Option Draft
+abbrev pub after_caller : ℕ → List text_words.Word → Draft → Option Draft
 after_caller number (i ∷ n ∷ ws) d =
-    option_and_then (λ caller. both (with_caller number d caller) (count_of d caller n) (call_of ws)) (caller_of d i)
+    option_and_then (λ caller. text_words.both (with_caller number d caller) (count_of d caller n) (operation_words.call_of ws)) (caller_of d i)
 after_caller number _ d = None
 
 -- whether a step may stand behind `at R`
@@ -125,22 +126,22 @@ abbrev pub with_plan : Draft → ℕ → Step → Draft
 with_plan d round s = record d { script = record d.script { plan = d.script.plan ++ (round, s) ∷ [] } }
 
 -- `at R LINE`, behind its first word
-abbrev pub after_plan : List Word → Draft → Option Draft
+abbrev pub after_plan : List text_words.Word → Draft → Option Draft
 after_plan (r ∷ ws) d =
-    both (with_plan d) (number_within 1 1000000 r)
-    (option_and_then planned (step_of d.script.nodes d.script.clients ws))
+    text_words.both (with_plan d) (text_words.number_within 1 MAX_ROUND r)
+    (option_and_then planned (step_lines.step_of d.script.nodes d.script.clients ws))
 after_plan [] d = None
 
 abbrev pub with_feed : Draft → ℕ × WatchKind → Draft
 with_feed d feed = record d { script = record d.script { feeds = d.script.feeds ++ feed ∷ [] } }
 
 -- `feed C KIND`, behind its first word: there are 16 at most
-abbrev pub after_feed : List Word → Draft → Option Draft
+abbrev pub after_feed : List text_words.Word → Draft → Option Draft
 after_feed ws d =
-    if nat_lt (length d.script.feeds) 16 then option_map (with_feed d) (client_and_watch d.script.clients ws) else None
+    if nat_lt (length d.script.feeds) 16 then option_map (with_feed d) (step_lines.client_and_watch d.script.clients ws) else None
 
 -- a line that only `race` takes, or one of the set-up
-abbrev pub after_race_line : ℕ → List Word → Draft → Option Draft
+abbrev pub after_race_line : ℕ → List text_words.Word → Draft → Option Draft
 after_race_line number [] d = None
 after_race_line number (w ∷ ws) d =
     if bytes_eq w (codes "caller") then after_caller number ws d
@@ -153,7 +154,7 @@ abbrev pub at_line : ℕ → Draft → Draft
 at_line number d = record d { script = record d.script { last_line = number } }
 
 -- what has been read after a line with words; none where it is no line of the grammar
-abbrev pub after_words : Bool → ℕ → List Word → Draft → Option Draft
+abbrev pub after_words : Bool → ℕ → List text_words.Word → Draft → Option Draft
 after_words race number ws d =
     option_map (at_line number) (if race then after_race_line number ws d else after_set_up_line number ws d)
 
@@ -164,7 +165,7 @@ after_skipped number l d = if is_empty l then d else at_line number d
 -- ---- which reason a line is refused for, if any
 
 -- a line and where it stands
-pub record Place : Type 0 where
+pub record LinePosition : Type 0 where
   pub race : Bool
   pub number : ℕ
   -- no newline ends it
@@ -172,10 +173,10 @@ pub record Place : Type 0 where
   -- it holds the byte after the longest script
   pub is_past : Bool
 
--- a line has 512 bytes at most, and a script 1,048,576
+-- a line and a script have a greatest length
 abbrev pub in_limits : Bool → List ℕ → Option Why
 in_limits is_past l =
-    if nat_lt 512 (length l) then Some why.LineTooLong
+    if nat_lt MAX_LINE (length l) then Some why.LineTooLong
     else if is_past then Some why.TooLong
     else None
 
@@ -188,24 +189,24 @@ abbrev pub or_refused : {A : Type 0} → Why → Option A → Result A Why
 or_refused reason None = Err reason
 or_refused reason (Some x) = Ok x
 
-abbrev pub after_cluster : Place → List ℕ → Option Draft → Result (Option Draft) Why
+abbrev pub after_cluster : LinePosition → List ℕ → Option Draft → Result (Option Draft) Why
 after_cluster p l None = Err why.Cluster
 after_cluster p l (Some d) = unless_refused (in_limits p.is_past l) (Ok (Some (at_line p.number d)))
 
 -- after a line where the cluster line is due
-abbrev pub after_first : Place → List ℕ → Result (Option Draft) Why
+abbrev pub after_first : LinePosition → List ℕ → Result (Option Draft) Why
 after_first p l =
     if is_skipped l then
     (if p.is_last then Err why.Cluster else unless_refused (in_limits p.is_past l) (Ok None))
-    else after_cluster p l (cluster_of (words_of l))
+    else after_cluster p l (cluster_draft (text_words.words_of l))
 
 -- after a later line
-abbrev pub after_later : Place → List ℕ → Draft → Result (Option Draft) Why
+abbrev pub after_later : LinePosition → List ℕ → Draft → Result (Option Draft) Why
 after_later p l d = unless_refused (in_limits p.is_past l)
     (if is_skipped l then Ok (Some (after_skipped p.number l d))
-    else or_refused why.Grammar (option_map (λ e. Some e) (after_words p.race p.number (words_of l) d)))
+    else or_refused why.Grammar (option_map (λ e. Some e) (after_words p.race p.number (text_words.words_of l) d)))
 
-abbrev pub after_line : Place → List ℕ → Option Draft → Result (Option Draft) Why
+abbrev pub after_line : LinePosition → List ℕ → Option Draft → Result (Option Draft) Why
 after_line p l None = after_first p l
 after_line p l (Some d) = after_later p l d
 
@@ -223,8 +224,8 @@ holds_last_byte _ = false
 
 -- where a line with this number stands, with these lines after it. Where the input is too long, its last byte is the one
 -- after the longest script.
-abbrev pub place_of : Bool → Bool → ℕ → List (List ℕ) → Place
-place_of race is_long number more = record {
+abbrev pub position_of : Bool → Bool → ℕ → List (List ℕ) → LinePosition
+position_of race is_long number more = record {
   race = race;
   number = number;
   is_last = is_empty more;
@@ -242,22 +243,22 @@ go_on number (Ok d) next = next d
 abbrev pub read_lines : Bool → Bool → List (List ℕ) → ℕ → Option Draft → Result Script Refusal
 read_lines race is_long [] number d = script_of number d
 read_lines race is_long (l ∷ more) number d =
-    go_on number (after_line (place_of race is_long number more) l d) (read_lines race is_long more (number + 1))
+    go_on number (after_line (position_of race is_long number more) l d) (read_lines race is_long more (number + 1))
 
 -- the bytes of the longest script
 unfoldable pub longest_script : ℕ
-longest_script = 1048576
+longest_script = MAX_SCRIPT
 
 unfoldable pub is_too_long : List ℕ → Bool
 is_too_long bytes = nat_lt longest_script (length bytes)
 
-abbrev pub first_bytes : Bool → List ℕ → List ℕ
-first_bytes false bytes = bytes
-first_bytes true bytes = take (longest_script + 1) bytes
+abbrev pub bytes_up_to_limit : Bool → List ℕ → List ℕ
+bytes_up_to_limit false bytes = bytes
+bytes_up_to_limit true bytes = take (longest_script + 1) bytes
 
 -- the bytes that are judged: all, or those up to the one after the longest script
 abbrev pub judged_bytes : List ℕ → List ℕ
-judged_bytes bytes = first_bytes (is_too_long bytes) bytes
+judged_bytes bytes = bytes_up_to_limit (is_too_long bytes) bytes
 
 -- the script, or the first line that is refused and why. Of several reasons the first of Cluster, LineTooLong, TooLong and Grammar counts.
 abbrev pub read_script_of : Bool → List ℕ → Result Script Refusal

@@ -1,5 +1,6 @@
 -- A session's calls in order: what has an answer, what may be released, and which events were heard.
 use Rattle.std.specs.Prelude.{ℕ, suc, ◌-◌, max, Bool, true, false, ◌&&◌, not, nat_eq, nat_lt, nat_le, Option, Some, None, is_some, List, [], ◌∷◌, ◌++◌, length, map, if◌then◌else◌}
+use Rattle.ax_types.specs.declared.limits.TheConstants.{MAX_UNANSWERED}
 use Rattle.ax_types.specs.declared.entries.Batch.{Batch}
 use Rattle.ax_types.specs.declared.ops.Level.{Level}
 use Rattle.ax_types.specs.declared.sessions.AskedCall.{AskedCall}
@@ -10,7 +11,7 @@ use Rattle.ax_types.specs.declared.sessions.Released.{Released}
 
 -- the most calls of a session that lack an outcome
 abbrev pub most_unanswered : ℕ
-most_unanswered = 64
+most_unanswered = MAX_UNANSWERED
 
 -- a call without an outcome, and the answer that it has got; a query has no sequence, a command no level
 pub record Unanswered : Type 0 where
@@ -20,7 +21,7 @@ pub record Unanswered : Type 0 where
   pub got : Option Got
 
 -- the calls without an outcome, in order, the sequence of the last command called, the place of the last batch heard,
--- the greatest place of an outcome, and the place of the last read
+-- the greatest place seen, which is the session's at first and then that of an outcome, and the place of the last read
 pub record Sequencer : Type 0 where
   pub session : ℕ
   pub calls : List Unanswered
@@ -30,7 +31,7 @@ pub record Sequencer : Type 0 where
   pub read : ℕ
 
 abbrev pub new_sequencer : ℕ → Sequencer
-new_sequencer session = record { session = session; calls = []; last = 0; heard = 0; seen = 0; read = 0 }
+new_sequencer session = record { session = session; calls = []; last = 0; heard = 0; seen = session; read = 0 }
 
 abbrev pub seq_or : Option ℕ → ℕ → ℕ
 seq_or None last = last
@@ -59,8 +60,8 @@ abbrev pub heard_at : Heard → Sequencer → Batch → Sequencer
 heard_at heard.Taken q b = record q { heard = b.place }
 heard_at _ q b = q
 
-abbrev pub with_batch : Sequencer → Batch → Sequencer
-with_batch q b = heard_at (heard_of q b) q b
+abbrev pub with_heard : Sequencer → Batch → Sequencer
+with_heard q b = heard_at (heard_of q b) q b
 
 -- whether release stops at a call: it has no answer, or one that names events not heard yet
 abbrev pub is_stopping : ℕ → Option Got → Bool
@@ -71,10 +72,11 @@ abbrev pub place_in : Option Got → ℕ
 place_in None = 0
 place_in (Some g) = g.place
 
--- whether a query's answer is older than the last read, so that it is asked again
+-- whether a call is a query
 abbrev pub is_query : Unanswered → Bool
 is_query u = not (is_some u.seq)
 
+-- whether a query's answer is older than the last read, so that it is asked again
 abbrev pub is_past : ℕ → Unanswered → Bool
 is_past read u = is_query u && nat_lt (place_in u.got) read
 
@@ -120,8 +122,8 @@ received_in (u ∷ us) last = if is_open_command u then seq_or u.seq 1 - 1 else 
 abbrev pub received : Sequencer → ℕ
 received q = received_in q.calls q.last
 
-abbrev pub unanswered : Sequencer → ℕ
-unanswered q = length q.calls
+abbrev pub unanswered_count : Sequencer → ℕ
+unanswered_count q = length q.calls
 
 -- the connected server, and the number of the last opening, with whether its answer is still to come
 pub record Switch : Type 0 where

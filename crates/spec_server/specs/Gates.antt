@@ -1,17 +1,18 @@
 -- Queries that wait until a server's state is new enough for them, and the sessions that are connected to it.
 use Rattle.std.specs.Prelude.{ℕ, max, Bool, true, false, not, nat_eq, nat_lt, Option, Some, None, List, [], ◌∷◌, ◌++◌, length, filter, find, if◌then◌else◌}
+use Rattle.ax_types.specs.declared.limits.TheConstants.{MAX_HELD}
 use Rattle.ax_types.specs.declared.sessions.Held.{Held}
 
 -- the most queries that a node holds
 abbrev pub most_held : ℕ
-most_held = 256
+most_held = MAX_HELD
 
 -- a query is held, unless as many are held as may be
-abbrev pub has_room : List Held → Bool
-has_room gate = nat_lt (length gate) most_held
+abbrev pub has_gate_room : List Held → Bool
+has_gate_room gate = nat_lt (length gate) most_held
 
 abbrev pub with_held : List Held → Held → List Held
-with_held gate h = if has_room gate then gate ++ h ∷ [] else gate
+with_held gate h = if has_gate_room gate then gate ++ h ∷ [] else gate
 
 abbrev pub with_all_held : List Held → List Held → List Held
 with_all_held gate [] = gate
@@ -29,7 +30,7 @@ abbrev pub still_held : (ℕ → ℕ → ℕ → Bool) → List Held → List He
 still_held ready gate = filter (λ h. not (is_ready_for ready h)) gate
 
 -- a linearizable query whose read waits for a round, by the number of its arrival
-pub record Reading : Type 0 where
+pub record WaitingQuery : Type 0 where
   pub arrival : ℕ
   pub held : Held
 
@@ -37,15 +38,15 @@ pub record Reading : Type 0 where
 abbrev pub held_at : ℕ → Held → Held
 held_at place h = record h { place = max h.place place }
 
-abbrev pub reading_at : ℕ → Option Reading → List Held
+abbrev pub reading_at : ℕ → Option WaitingQuery → List Held
 reading_at place None = []
 reading_at place (Some r) = held_at place r.held ∷ []
 
-abbrev pub reading : List Reading → ℕ → Option Reading
+abbrev pub reading : List WaitingQuery → ℕ → Option WaitingQuery
 reading readings arrival = find (λ r. nat_eq r.arrival arrival) readings
 
 -- the queries of the reads that are ready, and the readings without them
-abbrev pub ready_held : List Reading → List (ℕ × ℕ) → List Held
+abbrev pub ready_held : List WaitingQuery → List (ℕ × ℕ) → List Held
 ready_held readings [] = []
 ready_held readings (r ∷ reads) = reading_at r.1 (reading readings r.0) ++ ready_held readings reads
 
@@ -53,7 +54,7 @@ abbrev pub is_given : List (ℕ × ℕ) → ℕ → Bool
 is_given [] arrival = false
 is_given (r ∷ reads) arrival = if nat_eq r.0 arrival then true else is_given reads arrival
 
-abbrev pub without_ready : List Reading → List (ℕ × ℕ) → List Reading
+abbrev pub without_ready : List WaitingQuery → List (ℕ × ℕ) → List WaitingQuery
 without_ready readings reads = filter (λ r. not (is_given reads r.arrival)) readings
 
 -- a session that is connected here, and its client

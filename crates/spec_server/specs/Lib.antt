@@ -1,3 +1,3 @@
 pub mod Gates
 pub mod Servers
-pub mod Answers
+pub mod ServerStep

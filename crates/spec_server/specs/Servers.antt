@@ -1,5 +1,6 @@
 -- A server node's state, and what an input asks of its Raft node, its gate and its connections.
 use Rattle.std.specs.Prelude.{ℕ, Bool, Option, Some, None, List, [], ◌∷◌, map, if◌then◌else◌}
+use Rattle.ax_types.specs.Loads as loads
 use Rattle.ax_types.specs.declared.entries.Body.{Body}
 use Rattle.ax_types.specs.declared.entries.Body.TheVariants as body
 use Rattle.ax_types.specs.declared.entries.Loaded.{Loaded}
@@ -15,27 +16,27 @@ use Rattle.ax_types.specs.declared.raft.RaftInput.TheVariants as input
 use Rattle.ax_types.specs.declared.sessions.Held.{Held}
 use Rattle.ax_types.specs.declared.sessions.ServerInput.{ServerInput}
 use Rattle.ax_types.specs.declared.sessions.ServerInput.TheVariants as asks
-use Rattle.spec_node.specs.Nodes.{Node, restarted, nothing_kept, is_leader, time_for}
-use Rattle.spec_sessions.specs.Sessions.{Sessions, new_sessions, due}
-use Rattle.spec_server.specs.Gates.{Reading, Connection}
+use Rattle.spec_node.specs.Node as raft_nodes
+use Rattle.spec_sessions.specs.Sessions as sessions_sessions
+use Rattle.spec_server.specs.Gates as gates
 
 -- a server node; all but what its Raft node keeps goes at a crash
 pub record Server : Type 0 where
-  pub raft : Node
-  pub state : Sessions
+  pub raft : raft_nodes.Node
+  pub state : sessions_sessions.Sessions
   pub gate : List Held
-  pub readings : List Reading
-  pub connections : List Connection
+  pub readings : List gates.WaitingQuery
+  pub connections : List gates.Connection
 
 -- a server after its store was loaded (restart)
 abbrev pub server_from : ℕ → ℕ → ℕ → Loaded → Server
-server_from me nodes timeout kept = record { raft = restarted me nodes kept; state = new_sessions timeout; gate = []; readings = []; connections = [] }
+server_from me nodes timeout kept = record { raft = raft_nodes.restarted me nodes kept; state = sessions_sessions.new_sessions timeout; gate = []; readings = []; connections = [] }
 
 abbrev pub new_server : ℕ → ℕ → ℕ → Server
-new_server me nodes timeout = server_from me nodes timeout nothing_kept
+new_server me nodes timeout = server_from me nodes timeout loads.nothing_loaded
 
 abbrev pub leads : Server → Bool
-leads s = is_leader s.raft
+leads s = raft_nodes.is_leader s.raft
 
 -- a Connect or a Reset: which session, whose, and what it has heard
 pub record Hearing : Type 0 where
@@ -106,5 +107,5 @@ expiries (s ∷ sessions) clock = raft_task (input.Append clock (map body.Expire
 abbrev pub task : Server → ServerInput → Task
 task s (asks.Elect clock) = raft_task (input.Elect clock)
 task s (asks.Beat clock) = raft_task input.Beat
-task s (asks.Check clock) = expiries (due s.state (time_for s.raft clock)) clock
+task s (asks.Check clock) = expiries (sessions_sessions.due_sessions s.state (raft_nodes.time_for s.raft clock)) clock
 task s (asks.Packet clock p) = packet_task s clock p.«from» p.payload

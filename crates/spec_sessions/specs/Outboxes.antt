@@ -1,12 +1,13 @@
 -- What is kept for a live session's client: replies of commands that may come again, and batches of events.
 use Rattle.std.specs.Prelude.{ℕ, not, nat_eq, nat_lt, Option, Some, None, List, [], ◌∷◌, ◌++◌, take, map, filter, find, if◌then◌else◌}
+use Rattle.ax_types.specs.declared.limits.TheConstants.{MAX_BATCHES}
 use Rattle.ax_types.specs.declared.entries.Batch.{Batch}
 use Rattle.ax_types.specs.declared.replies.Event.{Event}
 use Rattle.ax_types.specs.declared.sessions.KeptReply.{KeptReply}
 
 -- the most batches that one answer to a client brings
 abbrev pub most_batches : ℕ
-most_batches = 256
+most_batches = MAX_BATCHES
 
 -- the sequence of the last command carried out, and the replies that are kept, in order (Ongaro 2014, 6.3)
 pub record Cache : Type 0 where

@@ -1,12 +1,13 @@
 -- The table of sessions: those that are live, with their last sign of life, and those that have ended (Ongaro 2014, 6.3).
 use Rattle.std.specs.Prelude.{ℕ, ◌-◌, Bool, false, not, nat_eq, nat_le, Option, Some, None, List, [], ◌∷◌, ◌++◌, take, map, filter, find, if◌then◌else◌}
+use Rattle.ax_types.specs.declared.limits.TheConstants.{MAX_DUE}
 use Rattle.ax_types.specs.declared.replies.How.{How}
 use Rattle.ax_types.specs.declared.sessions.SessionState.{SessionState}
 use Rattle.ax_types.specs.declared.sessions.SessionState.TheVariants as state
 
 -- the most sessions that one check ends
 abbrev pub most_due : ℕ
-most_due = 16
+most_due = MAX_DUE
 
 -- a live session: the place of its register entry, who opened it, and the log time of its last sign of life
 pub record Live : Type 0 where
@@ -16,7 +17,7 @@ pub record Live : Type 0 where
   pub sign : ℕ
 
 -- a session that ended, with the place of its end
-pub record Past : Type 0 where
+pub record PastSession : Type 0 where
   pub session : ℕ
   pub place : ℕ
   pub how : How
@@ -25,7 +26,7 @@ pub record Past : Type 0 where
 pub record Table : Type 0 where
   pub timeout : ℕ
   pub live : List Live
-  pub past : List Past
+  pub past : List PastSession
 
 abbrev pub new_table : ℕ → Table
 new_table timeout = record { timeout = timeout; live = []; past = [] }
@@ -33,10 +34,10 @@ new_table timeout = record { timeout = timeout; live = []; past = [] }
 abbrev pub live_session : Table → ℕ → Option Live
 live_session t session = find (λ l. nat_eq l.session session) t.live
 
-abbrev pub past_session : Table → ℕ → Option Past
+abbrev pub past_session : Table → ℕ → Option PastSession
 past_session t session = find (λ p. nat_eq p.session session) t.past
 
-abbrev pub state_with : Option Live → Option Past → SessionState
+abbrev pub state_with : Option Live → Option PastSession → SessionState
 state_with (Some l) p = state.Live
 state_with None (Some p) = state.Ended p.place p.how
 state_with None None = state.Unknown

@@ -1,2 +1,2 @@
-pub mod Numbers
-pub mod Operations
+pub mod Words
+pub mod OperationWords

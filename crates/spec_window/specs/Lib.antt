@@ -1,4 +1,4 @@
-pub mod Words
+pub mod WindowWords
 pub mod Views
-pub mod Calls
-pub mod Agreement
+pub mod WindowCalls
+pub mod WindowAgreement

@@ -1,4 +1,4 @@
-pub mod Numbers
-pub mod Resources
+pub mod NumberBytes
+pub mod OperationBytes
 pub mod Spelling
 pub mod Ranges

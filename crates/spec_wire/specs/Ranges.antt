@@ -2,9 +2,9 @@
 use Rattle.std.specs.Prelude.{ℕ, ℤ, ◌<◌, ◌≤◌, ◌^◌, List, IsTrue, FitsSigned}
 use Rattle.std.specs.List.{AllByRecursion}
 use Rattle.std.specs.Int.{w64}
-use Rattle.ax_types.specs.Forms.{is_name, is_text}
-use Rattle.ax_types.specs.declared.ids.TheConstants.{MAX_CLIENTS}
-use Rattle.ax_types.specs.declared.names.TheConstants.{MAX_LIFE}
+use Rattle.ax_types.specs.Letters as ax_types_letters
+use Rattle.ax_types.specs.declared.limits.TheConstants.{MAX_CLIENTS}
+use Rattle.ax_types.specs.declared.limits.TheConstants.{MAX_LIFE}
 use Rattle.ax_types.specs.declared.ops.MapOp.{MapOp}
 use Rattle.ax_types.specs.declared.ops.MapOp.TheVariants as map_op
 use Rattle.ax_types.specs.declared.ops.ValueOp.{ValueOp}
@@ -47,10 +47,10 @@ IsSigned z = FitsSigned w64 z
 
 -- the form of a name or a key
 abbrev pub IsName : List ℕ → Type 0
-IsName letters = IsTrue (is_name letters)
+IsName letters = IsTrue (ax_types_letters.is_name letters)
 
 abbrev pub IsText : List ℕ → Type 0
-IsText letters = IsTrue (is_text letters)
+IsText letters = IsTrue (ax_types_letters.is_text letters)
 
 abbrev pub IsLife : ℕ → Type 0
 IsLife n = (1 ≤ n) × (n ≤ MAX_LIFE)

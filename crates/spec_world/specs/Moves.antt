@@ -12,18 +12,18 @@ use Rattle.ax_types.specs.declared.steps.KeptStep.{KeptStep}
 use Rattle.ax_types.specs.declared.steps.StepOutcome.{StepOutcome}
 use Rattle.ax_types.specs.declared.steps.StepOutcome.TheVariants as outcome
 use Rattle.ax_types.specs.declared.steps.WatchKind.{WatchKind}
-use Rattle.spec_claims.specs.Heard.{watched_by}
-use Rattle.spec_node.specs.Keeping.{Save, calls_of, left, at_stake, with_rest}
-use Rattle.spec_cluster.specs.Bags.{with_packets}
-use Rattle.spec_server.specs.Servers.{server_from}
-use Rattle.spec_server.specs.Answers.{server_after, server_out}
-use Rattle.spec_client.specs.Clients.{ClientStep}
-use Rattle.spec_world.specs.Worlds.{Host, Seat, World, nodes_of, with_host, with_seat, kept_by, fallen}
-use Rattle.spec_world.specs.Plans.{Plan, Serves, Loads, Asks, Shows, plan}
+use Rattle.spec_claims.specs.Heard as heard
+use Rattle.spec_node.specs.Saving as saving
+use Rattle.spec_cluster.specs.Bag as bags
+use Rattle.spec_server.specs.Servers as servers
+use Rattle.spec_server.specs.ServerStep as server_steps
+use Rattle.spec_client.specs.Clients as clients
+use Rattle.spec_world.specs.Worlds as worlds
+use Rattle.spec_world.specs.Plans as plans
 
 -- the world after a step, and the step's items
 pub record Moved : Type 0 where
-  pub world : World
+  pub world : worlds.World
   pub items : List Item
 
 -- the history with the acts of the places that this node is the first to apply
@@ -42,39 +42,39 @@ abbrev pub option_item : Option Item → List Item
 option_item None = []
 option_item (Some i) = i ∷ []
 
-abbrev pub server_items : World → ℕ → ServerOut → List Item
+abbrev pub server_items : worlds.World → ℕ → ServerOut → List Item
 server_items w k o = leader_item k o.led ++ commit_item (length w.history) o.committed ++ option_item o.reach
 
 -- a server's step whose store calls succeeded
-abbrev pub serves : World → ℕ → Host → ServerInput → ServerOut → Moved
+abbrev pub serves : worlds.World → ℕ → worlds.Host → ServerInput → ServerOut → Moved
 serves w k h i o = record {
-  world = record (with_host w k (record h { server = server_after h.server i })) { bag = with_packets w.bag o.packets; history = history_with w.history o };
+  world = record (worlds.with_host w k (record h { server = server_steps.server_after h.server i })) { bag = bags.with_packets w.bag o.packets; history = history_with w.history o };
   items = server_items w k o;
 }
 
 -- a node halts where a store call failed: nothing of its step counts but what was saved, and it is down
-abbrev pub halts : World → ℕ → Host → List Save → ℕ → Moved
-halts w k h calls saved = record { world = with_host w k (fallen w k h (left (kept_by h) calls saved) (at_stake (slice_get calls saved))); items = item.Halted k ∷ [] }
+abbrev pub halts : worlds.World → ℕ → worlds.Host → List saving.Save → ℕ → Moved
+halts w k h calls saved = record { world = worlds.with_host w k (worlds.fallen_host w k h (saving.kept_at_failure (worlds.kept_by h) calls saved) (saving.at_stake (slice_get calls saved))); items = item.Halted k ∷ [] }
 
-abbrev pub served : World → ℕ → Host → ServerInput → StepOutcome → Moved
-served w k h i (outcome.Failed saved) = halts w k h (calls_of (server_out h.server i).saves) saved
-served w k h i _ = serves w k h i (server_out h.server i)
+abbrev pub served : worlds.World → ℕ → worlds.Host → ServerInput → StepOutcome → Moved
+served w k h i (outcome.Failed saved) = halts w k h (saving.calls_of (server_steps.server_out h.server i).saves) saved
+served w k h i _ = serves w k h i (server_steps.server_out h.server i)
 
 -- a load that succeeded tells how many entries a failed add had left
-abbrev pub loads : World → ℕ → Host → ℕ → Moved
+abbrev pub loads : worlds.World → ℕ → worlds.Host → ℕ → Moved
 loads w k h added = record {
-  world = with_host w k (record { is_up = true; clock = h.clock; server = server_from k (nodes_of w) w.timeout (with_rest (kept_by h) h.at_stake added); at_stake = [] });
+  world = worlds.with_host w k (record { is_up = true; clock = h.clock; server = servers.server_from k (worlds.nodes_of w) w.timeout (saving.with_rest (worlds.kept_by h) h.at_stake added); at_stake = [] });
   items = [];
 }
 
-abbrev pub loaded : World → ℕ → Host → StepOutcome → Moved
+abbrev pub loaded : worlds.World → ℕ → worlds.Host → StepOutcome → Moved
 loaded w k h (outcome.Failed saved) = record { world = w; items = item.Halted k ∷ [] }
 loaded w k h outcome.Fine = loads w k h 0
 loaded w k h (outcome.Loaded added) = loads w k h added
 
 -- a client's items, with what its watches show directly below each event
 abbrev pub shown_below : ℕ → List WatchKind → Item → List Item
-shown_below c watches (item.Event s p prev es) = flat_map (watched_by c s p es) watches
+shown_below c watches (item.Event s p prev es) = flat_map (heard.watched_by c s p es) watches
 shown_below c watches i = []
 
 abbrev pub with_shown : ℕ → List WatchKind → List Item → List Item
@@ -83,21 +83,21 @@ with_shown c watches items = flat_map (λ i. i ∷ shown_below c watches i) item
 abbrev pub from_client : ℕ → (ℕ × Payload) → Packet
 from_client c s = record { «from» = end.Client c; to = end.Node s.0; payload = s.1 }
 
-abbrev pub asked : World → ℕ → Seat → ClientStep → Moved
-asked w c s next = record {
-  world = record (with_seat w c (record s { client = next.client })) { bag = with_packets w.bag (map (from_client c) next.out.sends) };
+abbrev pub client_served : worlds.World → ℕ → worlds.Watcher → clients.ClientStep → Moved
+client_served w c s next = record {
+  world = record (worlds.with_watcher w c (record s { client = next.client })) { bag = bags.with_packets w.bag (map (from_client c) next.out.sends) };
   items = with_shown c s.watches next.out.items;
 }
 
 -- a plan is carried out
-abbrev pub carried : Plan → StepOutcome → Moved
-carried (Serves w k h i) o = served w k h i o
-carried (Loads w k h) o = loaded w k h o
-carried (Asks w c s next) o = asked w c s next
-carried (Shows w items) o = record { world = w; items = items }
+abbrev pub carried : plans.Plan → StepOutcome → Moved
+carried (plans.Serves w k h i) o = served w k h i o
+carried (plans.Loads w k h) o = loaded w k h o
+carried (plans.Asks w c s next) o = client_served w c s next
+carried (plans.Shows w items) o = record { world = w; items = items }
 
-abbrev pub moved : World → KeptStep → Moved
-moved w s = carried (plan w s.step) s.outcome
+abbrev pub moved : worlds.World → KeptStep → Moved
+moved w s = carried (plans.plan w s.step) s.outcome
 
 -- whether the stores may have fared so: a step fails at one of its store calls, a load at itself, and a load that succeeds
 -- finds at most the entries at stake
@@ -115,16 +115,16 @@ abbrev pub is_fine : StepOutcome → Bool
 is_fine outcome.Fine = true
 is_fine _ = false
 
-abbrev pub may_carry : Plan → StepOutcome → Bool
-may_carry (Serves w k h i) o = may_serve (length (calls_of (server_out h.server i).saves)) o
-may_carry (Loads w k h) o = may_load (length h.at_stake) o
-may_carry (Asks w c s next) o = is_fine o
-may_carry (Shows w items) o = is_fine o
+abbrev pub may_carry : plans.Plan → StepOutcome → Bool
+may_carry (plans.Serves w k h i) o = may_serve (length (saving.calls_of (server_steps.server_out h.server i).saves)) o
+may_carry (plans.Loads w k h) o = may_load (length h.at_stake) o
+may_carry (plans.Asks w c s next) o = is_fine o
+may_carry (plans.Shows w items) o = is_fine o
 
-abbrev pub may_fare : World → KeptStep → Bool
-may_fare w s = may_carry (plan w s.step) s.outcome
+abbrev pub may_fare : worlds.World → KeptStep → Bool
+may_fare w s = may_carry (plans.plan w s.step) s.outcome
 
 -- how the stores fare where nothing fails
-abbrev pub fares_well : Plan → StepOutcome
-fares_well (Loads w k h) = outcome.Loaded 0
+abbrev pub fares_well : plans.Plan → StepOutcome
+fares_well (plans.Loads w k h) = outcome.Loaded 0
 fares_well _ = outcome.Fine

@@ -1,8 +1,8 @@
 ghost use Rattle.std.specs.Prelude.{◌≡◌, IfOk};
-ghost use Rattle.spec_text.specs.Operations.{call_of, command_call_of, level_of, leveled_call_of, query_call_of};
-ghost use Rattle.spec_text.specs.Numbers.{both};
+ghost use Rattle.spec_text.specs.OperationWords as operation_words;
+ghost use Rattle.spec_text.specs.Words as text_words;
 ghost use Rattle.ax_types.specs.declared.ops.WindowCall.TheVariants as call;
-ghost use Rattle.text_words.specs.Behind.{words_behind};
+ghost use Rattle.text_words.specs.Behind as behind;
 
 use crate::operands::{is, name};
 use crate::operations::operation;
@@ -11,7 +11,7 @@ use ax_types::{Level, Name, NoMemory, Op, Query, WindowCall};
 use std::alloc::Global;
 
 fn level(word: &[u8]) -> Option<Level>
-    ensures { result ≡ level_of word.now }
+    ensures { result ≡ operation_words.level_of word.now }
 {
     if is(word, "seq") {
         Some(Level::Seq)
@@ -23,7 +23,7 @@ fn level(word: &[u8]) -> Option<Level>
 }
 
 fn made_command(name: Option<Name>, op: Option<Op>) -> Option<WindowCall>
-    ensures { result ≡ both call.Command name op }
+    ensures { result ≡ text_words.both call.Command name op }
 {
     Some(WindowCall::Command {
         name: name?,
@@ -32,7 +32,7 @@ fn made_command(name: Option<Name>, op: Option<Op>) -> Option<WindowCall>
 }
 
 fn made_query(level: Level, name: Option<Name>, query: Option<Query>) -> Option<WindowCall>
-    ensures { result ≡ both (call.Query level) name query }
+    ensures { result ≡ text_words.both (call.Query level) name query }
 {
     Some(WindowCall::Query {
         level,
@@ -43,7 +43,7 @@ fn made_query(level: Level, name: Option<Name>, query: Option<Query>) -> Option<
 
 /// The command of the words `KIND NAME OPERATION`; `None` exactly where they are no such words.
 pub fn command_call(alloc: Global, words: &[&[u8]]) -> Result<Option<WindowCall>, NoMemory>
-    ensures { IfOk result (λ read. read ≡ command_call_of (words_behind words.now)) }
+    ensures { IfOk result (λ read. read ≡ operation_words.command_call_of (behind.words_behind words.now)) }
 {
     match words {
         [kind, name_word, word, operands @ ..] => {
@@ -56,7 +56,7 @@ pub fn command_call(alloc: Global, words: &[&[u8]]) -> Result<Option<WindowCall>
 
 /// The query of the words `KIND NAME QUERY` at this level; `None` exactly where they are no such words.
 fn query_call(alloc: Global, level: Level, words: &[&[u8]]) -> Result<Option<WindowCall>, NoMemory>
-    ensures { IfOk result (λ read. read ≡ query_call_of level (words_behind words.now)) }
+    ensures { IfOk result (λ read. read ≡ operation_words.query_call_of level (behind.words_behind words.now)) }
 {
     match words {
         [kind, name_word, word, operands @ ..] => {
@@ -69,7 +69,7 @@ fn query_call(alloc: Global, level: Level, words: &[&[u8]]) -> Result<Option<Win
 
 /// The query of the words `LEVEL KIND NAME QUERY`; `None` exactly where they are no such words.
 pub fn leveled_call(alloc: Global, words: &[&[u8]]) -> Result<Option<WindowCall>, NoMemory>
-    ensures { IfOk result (λ read. read ≡ leveled_call_of (words_behind words.now)) }
+    ensures { IfOk result (λ read. read ≡ operation_words.leveled_call_of (behind.words_behind words.now)) }
 {
     match words {
         [level_word, rest @ ..] => match level(level_word) {
@@ -82,7 +82,7 @@ pub fn leveled_call(alloc: Global, words: &[&[u8]]) -> Result<Option<WindowCall>
 
 /// The call of the words `call KIND NAME OPERATION` or `query LEVEL KIND NAME QUERY`; `None` exactly where they are no such words.
 pub fn call(alloc: Global, words: &[&[u8]]) -> Result<Option<WindowCall>, NoMemory>
-    ensures { IfOk result (λ read. read ≡ call_of (words_behind words.now)) }
+    ensures { IfOk result (λ read. read ≡ operation_words.call_of (behind.words_behind words.now)) }
 {
     match words {
         [word, rest @ ..] => {

@@ -1,8 +1,8 @@
 ghost use Rattle.std.specs.Prelude.{◌≡◌, IfOk, ◌∷◌, [], Some, None};
 ghost use Rattle.std.specs.Str.{bytes_eq};
-ghost use Rattle.spec_text.specs.Numbers.{name_of, text_of};
-ghost use Rattle.spec_text.specs.Operations.{key_and_text as key_and_text_of, lasting_entry as lasting_entry_of, only_key as only_key_of, only_signed as only_signed_of, only_text as only_text_of, two_signed as two_signed_of, two_texts as two_texts_of, without_operands as without_operands_of};
-ghost use Rattle.text_words.specs.Behind.{words_behind};
+ghost use Rattle.spec_text.specs.Words as text_words;
+ghost use Rattle.spec_text.specs.OperationWords as operation_words;
+ghost use Rattle.text_words.specs.Behind as behind;
 
 use crate::numbers::{life, signed};
 use ax_types::{Key, Life, Name, NoMemory, Text};
@@ -17,32 +17,32 @@ pub fn is(word: &[u8], text: &str) -> bool
 
 /// The name of a resource; `None` exactly where the word has not its form.
 pub fn name(alloc: Global, word: &[u8]) -> Result<Option<Name>, NoMemory>
-    ensures { IfOk result (λ read. read ≡ name_of word.now) }
+    ensures { IfOk result (λ read. read ≡ text_words.name_of word.now) }
 {
     Name::read(alloc, word)
 }
 
 fn key(alloc: Global, word: &[u8]) -> Result<Option<Key>, NoMemory>
-    ensures { IfOk result (λ read. read ≡ name_of word.now) }
+    ensures { IfOk result (λ read. read ≡ text_words.name_of word.now) }
 {
     Key::read(alloc, word)
 }
 
 fn text(alloc: Global, word: &[u8]) -> Result<Option<Text>, NoMemory>
-    ensures { IfOk result (λ read. read ≡ text_of word.now) }
+    ensures { IfOk result (λ read. read ≡ text_words.text_of word.now) }
 {
     Text::read(alloc, word)
 }
 
 /// The value, where no operands are given.
 pub fn without_operands<T: Drop>(value: T, words: &[&[u8]]) -> Option<T>
-    ensures { result ≡ without_operands_of value (words_behind words.now) }
+    ensures { result ≡ operation_words.without_operands value (behind.words_behind words.now) }
 {
     if words.is_empty() { Some(value) } else { None }
 }
 
 pub fn only_key(alloc: Global, words: &[&[u8]]) -> Result<Option<Key>, NoMemory>
-    ensures { IfOk result (λ read. read ≡ only_key_of (words_behind words.now)) }
+    ensures { IfOk result (λ read. read ≡ operation_words.only_key (behind.words_behind words.now)) }
 {
     match words {
         [k] => key(alloc, k),
@@ -51,7 +51,7 @@ pub fn only_key(alloc: Global, words: &[&[u8]]) -> Result<Option<Key>, NoMemory>
 }
 
 pub fn only_text(alloc: Global, words: &[&[u8]]) -> Result<Option<Text>, NoMemory>
-    ensures { IfOk result (λ read. read ≡ only_text_of (words_behind words.now)) }
+    ensures { IfOk result (λ read. read ≡ operation_words.only_text (behind.words_behind words.now)) }
 {
     match words {
         [v] => text(alloc, v),
@@ -60,7 +60,7 @@ pub fn only_text(alloc: Global, words: &[&[u8]]) -> Result<Option<Text>, NoMemor
 }
 
 pub fn only_signed(words: &[&[u8]]) -> Option<i64>
-    ensures { result ≡ only_signed_of (words_behind words.now) }
+    ensures { result ≡ operation_words.only_signed (behind.words_behind words.now) }
 {
     match words {
         [n] => signed(n),
@@ -69,7 +69,7 @@ pub fn only_signed(words: &[&[u8]]) -> Option<i64>
 }
 
 pub fn two_signed(words: &[&[u8]]) -> Option<(i64, i64)>
-    ensures { result ≡ two_signed_of (words_behind words.now) }
+    ensures { result ≡ operation_words.two_signed (behind.words_behind words.now) }
 {
     match words {
         [expected, number] => Some((signed(expected)?, signed(number)?)),
@@ -78,7 +78,7 @@ pub fn two_signed(words: &[&[u8]]) -> Option<(i64, i64)>
 }
 
 fn pair_of_key_and_text(alloc: Global, k: &[u8], v: &[u8]) -> Result<Option<(Key, Text)>, NoMemory>
-    ensures { IfOk result (λ read. read ≡ key_and_text_of (k.now ∷ v.now ∷ [])) }
+    ensures { IfOk result (λ read. read ≡ operation_words.key_and_text (k.now ∷ v.now ∷ [])) }
 {
     match (key(alloc, k)?, text(alloc, v)?) {
         (Some(key), Some(text)) => Ok(Some((key, text))),
@@ -87,7 +87,7 @@ fn pair_of_key_and_text(alloc: Global, k: &[u8], v: &[u8]) -> Result<Option<(Key
 }
 
 pub fn key_and_text(alloc: Global, words: &[&[u8]]) -> Result<Option<(Key, Text)>, NoMemory>
-    ensures { IfOk result (λ read. read ≡ key_and_text_of (words_behind words.now)) }
+    ensures { IfOk result (λ read. read ≡ operation_words.key_and_text (behind.words_behind words.now)) }
 {
     match words {
         [k, v] => pair_of_key_and_text(alloc, k, v),
@@ -96,7 +96,7 @@ pub fn key_and_text(alloc: Global, words: &[&[u8]]) -> Result<Option<(Key, Text)
 }
 
 fn pair_of_texts(alloc: Global, e: &[u8], v: &[u8]) -> Result<Option<(Text, Text)>, NoMemory>
-    ensures { IfOk result (λ read. read ≡ two_texts_of (e.now ∷ v.now ∷ [])) }
+    ensures { IfOk result (λ read. read ≡ operation_words.two_texts (e.now ∷ v.now ∷ [])) }
 {
     match (text(alloc, e)?, text(alloc, v)?) {
         (Some(expected), Some(text)) => Ok(Some((expected, text))),
@@ -105,7 +105,7 @@ fn pair_of_texts(alloc: Global, e: &[u8], v: &[u8]) -> Result<Option<(Text, Text
 }
 
 pub fn two_texts(alloc: Global, words: &[&[u8]]) -> Result<Option<(Text, Text)>, NoMemory>
-    ensures { IfOk result (λ read. read ≡ two_texts_of (words_behind words.now)) }
+    ensures { IfOk result (λ read. read ≡ operation_words.two_texts (behind.words_behind words.now)) }
 {
     match words {
         [e, v] => pair_of_texts(alloc, e, v),
@@ -119,7 +119,7 @@ fn entry_with_life(
     v: &[u8],
     l: &[u8],
 ) -> Result<Option<(Key, Text, Life)>, NoMemory>
-    ensures { IfOk result (λ read. read ≡ lasting_entry_of (k.now ∷ v.now ∷ l.now ∷ [])) }
+    ensures { IfOk result (λ read. read ≡ operation_words.lasting_entry (k.now ∷ v.now ∷ l.now ∷ [])) }
 {
     match (pair_of_key_and_text(alloc, k, v)?, life(l)) {
         (Some((key, text)), Some(life)) => Ok(Some((key, text, life))),
@@ -128,7 +128,7 @@ fn entry_with_life(
 }
 
 pub fn lasting_entry(alloc: Global, words: &[&[u8]]) -> Result<Option<(Key, Text, Life)>, NoMemory>
-    ensures { IfOk result (λ read. read ≡ lasting_entry_of (words_behind words.now)) }
+    ensures { IfOk result (λ read. read ≡ operation_words.lasting_entry (behind.words_behind words.now)) }
 {
     match words {
         [k, v, l] => entry_with_life(alloc, k, v, l),

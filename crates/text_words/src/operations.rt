@@ -1,6 +1,6 @@
 ghost use Rattle.std.specs.Prelude.{◌≡◌, IfOk};
-ghost use Rattle.spec_text.specs.Operations.{group_op_of, lock_op_of, long_op_of, map_op_of, multimap_op_of, queue_op_of, set_op_of, topic_op_of, value_op_of, op_of};
-ghost use Rattle.text_words.specs.Behind.{words_behind};
+ghost use Rattle.spec_text.specs.OperationWords as operation_words;
+ghost use Rattle.text_words.specs.Behind as behind;
 
 use crate::operands::{
     is, key_and_text, lasting_entry, only_key, only_signed, only_text, two_signed, two_texts,
@@ -12,7 +12,7 @@ use ax_types::{
 use std::alloc::Global;
 
 fn map_op(alloc: Global, word: &[u8], words: &[&[u8]]) -> Result<Option<MapOp>, NoMemory>
-    ensures { IfOk result (λ read. read ≡ map_op_of word.now (words_behind words.now)) }
+    ensures { IfOk result (λ read. read ≡ operation_words.map_op_of word.now (behind.words_behind words.now)) }
 {
     if is(word, "put") {
         Ok(key_and_text(alloc, words)?.map(|(key, text)| MapOp::Put { key, text }))
@@ -34,7 +34,7 @@ fn map_op(alloc: Global, word: &[u8], words: &[&[u8]]) -> Result<Option<MapOp>, 
 }
 
 fn value_op(alloc: Global, word: &[u8], words: &[&[u8]]) -> Result<Option<ValueOp>, NoMemory>
-    ensures { IfOk result (λ read. read ≡ value_op_of word.now (words_behind words.now)) }
+    ensures { IfOk result (λ read. read ≡ operation_words.value_op_of word.now (behind.words_behind words.now)) }
 {
     if is(word, "set") {
         Ok(only_text(alloc, words)?.map(|text| ValueOp::Set { text }))
@@ -50,7 +50,7 @@ fn value_op(alloc: Global, word: &[u8], words: &[&[u8]]) -> Result<Option<ValueO
 }
 
 fn long_op(word: &[u8], words: &[&[u8]]) -> Option<LongOp>
-    ensures { result ≡ long_op_of word.now (words_behind words.now) }
+    ensures { result ≡ operation_words.long_op_of word.now (behind.words_behind words.now) }
 {
     if is(word, "add") {
         only_signed(words).map(|delta| LongOp::Add { delta })
@@ -66,7 +66,7 @@ fn long_op(word: &[u8], words: &[&[u8]]) -> Option<LongOp>
 }
 
 fn lock_op(word: &[u8], words: &[&[u8]]) -> Option<LockOp>
-    ensures { result ≡ lock_op_of word.now (words_behind words.now) }
+    ensures { result ≡ operation_words.lock_op_of word.now (behind.words_behind words.now) }
 {
     if is(word, "lock") {
         without_operands(LockOp::Lock, words)
@@ -82,7 +82,7 @@ fn lock_op(word: &[u8], words: &[&[u8]]) -> Option<LockOp>
 }
 
 fn group_op(word: &[u8], words: &[&[u8]]) -> Option<GroupOp>
-    ensures { result ≡ group_op_of word.now (words_behind words.now) }
+    ensures { result ≡ operation_words.group_op_of word.now (behind.words_behind words.now) }
 {
     if is(word, "join") {
         without_operands(GroupOp::Join, words)
@@ -96,7 +96,7 @@ fn group_op(word: &[u8], words: &[&[u8]]) -> Option<GroupOp>
 }
 
 fn set_op(alloc: Global, word: &[u8], words: &[&[u8]]) -> Result<Option<SetOp>, NoMemory>
-    ensures { IfOk result (λ read. read ≡ set_op_of word.now (words_behind words.now)) }
+    ensures { IfOk result (λ read. read ≡ operation_words.set_op_of word.now (behind.words_behind words.now)) }
 {
     if is(word, "add") {
         Ok(only_text(alloc, words)?.map(|text| SetOp::Add { text }))
@@ -110,7 +110,7 @@ fn set_op(alloc: Global, word: &[u8], words: &[&[u8]]) -> Result<Option<SetOp>, 
 }
 
 fn queue_op(alloc: Global, word: &[u8], words: &[&[u8]]) -> Result<Option<QueueOp>, NoMemory>
-    ensures { IfOk result (λ read. read ≡ queue_op_of word.now (words_behind words.now)) }
+    ensures { IfOk result (λ read. read ≡ operation_words.queue_op_of word.now (behind.words_behind words.now)) }
 {
     if is(word, "offer") {
         Ok(only_text(alloc, words)?.map(|text| QueueOp::Offer { text }))
@@ -122,7 +122,7 @@ fn queue_op(alloc: Global, word: &[u8], words: &[&[u8]]) -> Result<Option<QueueO
 }
 
 fn multimap_op(alloc: Global, word: &[u8], words: &[&[u8]]) -> Result<Option<MultimapOp>, NoMemory>
-    ensures { IfOk result (λ read. read ≡ multimap_op_of word.now (words_behind words.now)) }
+    ensures { IfOk result (λ read. read ≡ operation_words.multimap_op_of word.now (behind.words_behind words.now)) }
 {
     if is(word, "put") {
         Ok(key_and_text(alloc, words)?.map(|(key, text)| MultimapOp::Put { key, text }))
@@ -136,7 +136,7 @@ fn multimap_op(alloc: Global, word: &[u8], words: &[&[u8]]) -> Result<Option<Mul
 }
 
 fn topic_op(alloc: Global, word: &[u8], words: &[&[u8]]) -> Result<Option<TopicOp>, NoMemory>
-    ensures { IfOk result (λ read. read ≡ topic_op_of word.now (words_behind words.now)) }
+    ensures { IfOk result (λ read. read ≡ operation_words.topic_op_of word.now (behind.words_behind words.now)) }
 {
     if is(word, "subscribe") {
         Ok(without_operands(TopicOp::Subscribe, words))
@@ -156,7 +156,7 @@ pub fn operation(
     word: &[u8],
     words: &[&[u8]],
 ) -> Result<Option<Op>, NoMemory>
-    ensures { IfOk result (λ read. read ≡ op_of kind.now word.now (words_behind words.now)) }
+    ensures { IfOk result (λ read. read ≡ operation_words.op_of kind.now word.now (behind.words_behind words.now)) }
 {
     if is(kind, "map") {
         Ok(map_op(alloc, word, words)?.map(Op::Map))

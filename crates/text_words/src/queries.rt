@@ -1,6 +1,6 @@
 ghost use Rattle.std.specs.Prelude.{◌≡◌, IfOk};
-ghost use Rattle.spec_text.specs.Operations.{group_query_of, lock_query_of, long_query_of, map_query_of, multimap_query_of, queue_query_of, set_query_of, topic_query_of, value_query_of, query_of};
-ghost use Rattle.text_words.specs.Behind.{words_behind};
+ghost use Rattle.spec_text.specs.OperationWords as operation_words;
+ghost use Rattle.text_words.specs.Behind as behind;
 
 use crate::operands::{is, key_and_text, only_key, only_text, without_operands};
 use ax_types::{
@@ -10,7 +10,7 @@ use ax_types::{
 use std::alloc::Global;
 
 fn map_query(alloc: Global, word: &[u8], words: &[&[u8]]) -> Result<Option<MapQuery>, NoMemory>
-    ensures { IfOk result (λ read. read ≡ map_query_of word.now (words_behind words.now)) }
+    ensures { IfOk result (λ read. read ≡ operation_words.map_query_of word.now (behind.words_behind words.now)) }
 {
     if is(word, "get") {
         Ok(only_key(alloc, words)?.map(|key| MapQuery::Get { key }))
@@ -24,7 +24,7 @@ fn map_query(alloc: Global, word: &[u8], words: &[&[u8]]) -> Result<Option<MapQu
 }
 
 fn value_query(word: &[u8], words: &[&[u8]]) -> Option<ValueQuery>
-    ensures { result ≡ value_query_of word.now (words_behind words.now) }
+    ensures { result ≡ operation_words.value_query_of word.now (behind.words_behind words.now) }
 {
     if is(word, "get") {
         without_operands(ValueQuery::Get, words)
@@ -34,7 +34,7 @@ fn value_query(word: &[u8], words: &[&[u8]]) -> Option<ValueQuery>
 }
 
 fn long_query(word: &[u8], words: &[&[u8]]) -> Option<LongQuery>
-    ensures { result ≡ long_query_of word.now (words_behind words.now) }
+    ensures { result ≡ operation_words.long_query_of word.now (behind.words_behind words.now) }
 {
     if is(word, "get") {
         without_operands(LongQuery::Get, words)
@@ -44,7 +44,7 @@ fn long_query(word: &[u8], words: &[&[u8]]) -> Option<LongQuery>
 }
 
 fn lock_query(word: &[u8], words: &[&[u8]]) -> Option<LockQuery>
-    ensures { result ≡ lock_query_of word.now (words_behind words.now) }
+    ensures { result ≡ operation_words.lock_query_of word.now (behind.words_behind words.now) }
 {
     if is(word, "holder") {
         without_operands(LockQuery::Holder, words)
@@ -56,7 +56,7 @@ fn lock_query(word: &[u8], words: &[&[u8]]) -> Option<LockQuery>
 }
 
 fn group_query(word: &[u8], words: &[&[u8]]) -> Option<GroupQuery>
-    ensures { result ≡ group_query_of word.now (words_behind words.now) }
+    ensures { result ≡ operation_words.group_query_of word.now (behind.words_behind words.now) }
 {
     if is(word, "members") {
         without_operands(GroupQuery::Members, words)
@@ -68,7 +68,7 @@ fn group_query(word: &[u8], words: &[&[u8]]) -> Option<GroupQuery>
 }
 
 fn set_query(alloc: Global, word: &[u8], words: &[&[u8]]) -> Result<Option<SetQuery>, NoMemory>
-    ensures { IfOk result (λ read. read ≡ set_query_of word.now (words_behind words.now)) }
+    ensures { IfOk result (λ read. read ≡ operation_words.set_query_of word.now (behind.words_behind words.now)) }
 {
     if is(word, "contains") {
         Ok(only_text(alloc, words)?.map(|text| SetQuery::Contains { text }))
@@ -80,7 +80,7 @@ fn set_query(alloc: Global, word: &[u8], words: &[&[u8]]) -> Result<Option<SetQu
 }
 
 fn queue_query(word: &[u8], words: &[&[u8]]) -> Option<QueueQuery>
-    ensures { result ≡ queue_query_of word.now (words_behind words.now) }
+    ensures { result ≡ operation_words.queue_query_of word.now (behind.words_behind words.now) }
 {
     if is(word, "peek") {
         without_operands(QueueQuery::Peek, words)
@@ -96,7 +96,7 @@ fn multimap_query(
     word: &[u8],
     words: &[&[u8]],
 ) -> Result<Option<MultimapQuery>, NoMemory>
-    ensures { IfOk result (λ read. read ≡ multimap_query_of word.now (words_behind words.now)) }
+    ensures { IfOk result (λ read. read ≡ operation_words.multimap_query_of word.now (behind.words_behind words.now)) }
 {
     if is(word, "contains") {
         Ok(key_and_text(alloc, words)?.map(|(key, text)| MultimapQuery::Contains { key, text }))
@@ -110,7 +110,7 @@ fn multimap_query(
 }
 
 fn topic_query(word: &[u8], words: &[&[u8]]) -> Option<TopicQuery>
-    ensures { result ≡ topic_query_of word.now (words_behind words.now) }
+    ensures { result ≡ operation_words.topic_query_of word.now (behind.words_behind words.now) }
 {
     if is(word, "subscribers") {
         without_operands(TopicQuery::Subscribers, words)
@@ -126,7 +126,7 @@ pub fn question(
     word: &[u8],
     words: &[&[u8]],
 ) -> Result<Option<Query>, NoMemory>
-    ensures { IfOk result (λ read. read ≡ query_of kind.now word.now (words_behind words.now)) }
+    ensures { IfOk result (λ read. read ≡ operation_words.query_of kind.now word.now (behind.words_behind words.now)) }
 {
     if is(kind, "map") {
         Ok(map_query(alloc, word, words)?.map(Query::Map))

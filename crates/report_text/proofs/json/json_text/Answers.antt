@@ -1,9 +1,9 @@
 use Rattle.std.proofs.Common.{◌≡◌, ℕ, false, List, [], ◌∷◌, ◌++◌, IfOk, Result, Ok, Err, map, ap, ◌∙◌, string_bytes}
 use Rattle.serde_json.specs.Data.{Data}
 use Rattle.serde_json.specs.Written.{has_float, compact_text}
-use Rattle.spec_report.specs.Items.{item_line, waiting_line}
-use Rattle.spec_report.specs.Report.{act_lines, end_word}
-use Rattle.spec_report.specs.Json.{report_data}
+use Rattle.spec_report.specs.Items as items
+use Rattle.spec_report.specs.Report as reports
+use Rattle.spec_report.specs.Json as json_form
 use Rattle.report_text.proofs.Strings.{object_has_no_float}
 use Rattle.report_text.proofs.json.json_text.Goals as goal
 
@@ -26,8 +26,8 @@ pub returns : goal.returns
 returns c =
     let report = c.args.report.now in
     weaker c.ended.result _ _
-    (λ t end. ended_text (string_bytes c.in_ok-to_string.field-0) (string_bytes t) _ (report_data report) c.in_ok-to_string.ensures.text
+    (λ t end. ended_text (string_bytes c.in_ok-to_string.field-0) (string_bytes t) _ (json_form.report_data report) c.in_ok-to_string.ensures.text
     c.in_ok-report_value.ensures
-    (object_has_no_float (end_word report.end) (act_lines 1 report.history) (map item_line report.items) (map waiting_line report.waiting))
+    (object_has_no_float (reports.end_word report.end) (reports.act_lines 1 report.history) (map items.item_line report.items) (map items.waiting_line report.waiting))
     end)
     c.ended.ensures

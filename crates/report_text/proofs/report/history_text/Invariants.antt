@@ -1,5 +1,5 @@
 use Rattle.std.proofs.Common.{◌≡◌, ◌+◌, string_bytes, ◌++◌, drop}
-use Rattle.spec_report.specs.Items.{lines_text}
+use Rattle.spec_report.specs.Items as items
 use Rattle.spec_report.specs.Report as spec
 use Rattle.report_text.proofs.report.history_text.Given as goal
 
@@ -7,4 +7,4 @@ use Rattle.report_text.proofs.report.history_text.Given as goal
 abbrev pub invariant-entries : goal.invariant-entries
 invariant-entries l =
     (l.place ≡ l.entry-index + 1)
-    × (string_bytes l.text ++ lines_text (spec.act_lines l.place (drop l.entry-index l.history)) ≡ spec.history_text l.history)
+    × (string_bytes l.text ++ items.lines_text (spec.act_lines l.place (drop l.entry-index l.history)) ≡ spec.history_text l.history)

@@ -4,7 +4,3 @@ use Rattle.res_lock.proofs.LockBox.cancel.Goals as goal
 
 pub invariant_of-self : goal.invariant_of-self
 invariant_of-self c = rw c.remove.ensures.after (apart_after_removal c.self.inside.holder c.self.inside.waiting c.args.session c.self.invariant)
-
-pub invariant_of-self-else-remove : goal.invariant_of-self-else-remove
-invariant_of-self-else-remove c =
-    rw c.remove.ensures.after (apart_after_removal c.self.inside.holder c.self.inside.waiting c.args.session c.self.invariant)

@@ -1,5 +1,5 @@
 use Rattle.std.proofs.Common.{◌≡◌, ◌∙◌, [], false, sym, rules}
-use Rattle.res_deadlines.specs.Deadlines.{any_passed}
+use Rattle.res_deadlines.specs.Deadlines as deadlines
 use Rattle.res_registry.proofs.Ended.{none_passed, walked_passed}
 use Rattle.res_registry.proofs.visits.pass.Goals as goal
 
@@ -19,11 +19,11 @@ returns-clause-after c =
 
 pub returns-then-not-any_passed-clause-told : goal.returns-then-not-any_passed-clause-told
 returns-then-not-any_passed-clause-told c =
-    let none : any_passed c.args.time c.args.ends.now ≡ false = sym c.any_passed.ensures ∙ c.if-not-any_passed.true in
+    let none : deadlines.any_passed c.args.time c.args.ends.now ≡ false = sym c.any_passed.ensures ∙ c.if-not-any_passed.true in
     let empty : c.new.result.items ≡ [] = search rules in
     empty ∙ (none_passed c.args.time c.args.slots.now.entries c.args.ends.now c.requires.ends none c.requires.ascending).1
 
 pub returns-then-not-any_passed-clause-after : goal.returns-then-not-any_passed-clause-after
 returns-then-not-any_passed-clause-after c =
-    let none : any_passed c.args.time c.args.ends.now ≡ false = sym c.any_passed.ensures ∙ c.if-not-any_passed.true in
+    let none : deadlines.any_passed c.args.time c.args.ends.now ≡ false = sym c.any_passed.ensures ∙ c.if-not-any_passed.true in
     (none_passed c.args.time c.args.slots.now.entries c.args.ends.now c.requires.ends none c.requires.ascending).0

@@ -1,5 +1,5 @@
 use Rattle.std.proofs.Common.{sym}
-use Rattle.res_registry.specs.Walk.{pass_visit}
+use Rattle.res_registry.specs.Walk as walks
 use Rattle.res_registry.proofs.Written.{written}
 use Rattle.res_registry.proofs.Turns.{ends-written}
 use Rattle.res_registry.proofs.visits.pass_at.Goals as goal
@@ -7,7 +7,7 @@ use Rattle.res_registry.proofs.visits.pass_at.Goals as goal
 pub returns-in_ok-change-in-Some-clause-after : goal.returns-in_ok-change-in-Some-clause-after
 returns-in_ok-change-in-Some-clause-after c =
     let w = c.pass.new.self in
-    written (pass_visit c.args.time) c.args.slots.now.entries (c.get_mut.follows.lender w).entries c.args.name.now c.in-Some.slot.now w
+    written (walks.pass_visit c.args.time) c.args.slots.now.entries (c.get_mut.follows.lender w).entries c.args.name.now c.in-Some.slot.now w
     c.get_mut.ensures.ordered (sym c.in-Some.ensures.value) c.in_ok-told-in-Some.ensures.after (c.get_mut.follows.holds w).0
 
 pub returns-in_ok-change-in-Some-clause-ends : goal.returns-in_ok-change-in-Some-clause-ends

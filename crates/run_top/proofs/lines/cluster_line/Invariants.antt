@@ -5,6 +5,6 @@ use Rattle.run_top.proofs.lines.cluster_line.Given as goal
 -- the line with words is the first one in the bytes that are left
 abbrev pub invariant-bytes : goal.invariant-bytes
 invariant-bytes l = record {
-  line_is : spec.cluster_line l.bytes ≡ spec.first_words l.number l.in_comment (drop l.byte-index l.bytes);
+  line_is : spec.cluster_line_number l.bytes ≡ spec.first_word_line l.number l.in_comment (drop l.byte-index l.bytes);
   number_fits : l.number ≤ l.byte-index + 1;
 }

@@ -1,7 +1,7 @@
 use Rattle.std.proofs.Common.{◌∙◌, ℕ, List, ap, refl, filter}
-use Rattle.spec_book.specs.MapTurn.{life_ended}
-use Rattle.spec_book.specs.Resources.{MapItem}
-use Rattle.res_map.specs.Told.{tell_keys}
+use Rattle.spec_book.specs.MapTurn as map_turns
+use Rattle.spec_book.specs.Resources as resources
+use Rattle.res_map.specs.Told as told
 use Rattle.res_map.proofs.Gone.{without_keys-ended, tell_keys-keys_of}
 use Rattle.res_map.proofs.map.MapBox.pass.Goals as goal
 
@@ -11,8 +11,8 @@ returns-clause-ok c =
     let s = c.self.inside in
     c.in_ok-told.ensures
     ∙ rw (← c.self.view_is)
-    (ap (λ (keys : List (List ℕ)). tell_keys name s.listeners keys) c.in_ok-ended.ensures.keys
-    ∙ tell_keys-keys_of name s.listeners (filter (λ (e : List ℕ × MapItem). life_ended c.args.time e.1.life) s.entries))
+    (ap (λ (keys : List (List ℕ)). told.tell_keys name s.listeners keys) c.in_ok-ended.ensures.keys
+    ∙ tell_keys-keys_of name s.listeners (filter (λ (e : List ℕ × resources.MapItem). map_turns.life_ended c.args.time e.1.life) s.entries))
 
 pub returns-clause-after : goal.returns-clause-after
 returns-clause-after c =

@@ -4,7 +4,7 @@ use Rattle.std.specs.Prelude.{◌↔◌, IsSome}
 use Rattle.std.specs.VecDeque.{deque_len}
 use Rattle.std.specs.Ordering.{nat_cmp}
 use Rattle.std.specs.BTreeMap.{is_at}
-use Rattle.spec_book.specs.Dict.{has_session, without_session}
+use Rattle.spec_book.specs.Dict as dicts
 use Rattle.res_sessions.proofs.Sessions.{IsIndexed-remove, absent_by_place, kept_by_place, gone_by_place, unchanged_unless_found}
 use Rattle.res_sessions.proofs.queue.SessionQueue.remove.Goals as goal
 
@@ -25,7 +25,7 @@ pub returns-in-Some-clause-unchanged : goal.returns-in-Some-clause-unchanged
 returns-in-Some-clause-unchanged c =
     let same : deque_len c.self.inside.sessions ≡ length c.self.inside.sessions.items = search rules in
     let variant : IsSome c.remove.result ↔ (c.in-Some.place < length c.self.inside.sessions.items) = rw (← same) c.remove.ensures.variant in
-    let found : c.remove-in-Some.result ≡ has_session c.args.self.now c.args.session =
+    let found : c.remove-in-Some.result ≡ dicts.has_session c.args.self.now c.args.session =
     rw (← c.self.view_is) (c.remove-in-Some.ensures.test ∙ c.self.invariant.same c.args.session) in
     unchanged_unless_found c.args.self.now c.remove.new.self.items c.args.session c.remove-in-Some.result found
     (gone_by_place c.args.self.now c.remove.new.self.items c.args.session c.in-Some.place c.place_of.result c.remove.result c.place_of.ensures
@@ -36,7 +36,7 @@ invariant_of-self c =
     let same : deque_len c.self.inside.sessions ≡ length c.self.inside.sessions.items = search rules in
     let variant : IsSome c.remove.result ↔ (c.in-Some.place < length c.self.inside.sessions.items) = rw (← same) c.remove.ensures.variant in
     let at : c.place_of.result ≡ position (is_at (nat_cmp c.args.session)) c.self.inside.sessions.items = rw c.self.view_is c.place_of.ensures in
-    let gone : c.remove.new.self.items ≡ without_session c.self.inside.sessions.items c.args.session =
+    let gone : c.remove.new.self.items ≡ dicts.without_session c.self.inside.sessions.items c.args.session =
     gone_by_place c.self.inside.sessions.items c.remove.new.self.items c.args.session c.in-Some.place c.place_of.result c.remove.result
     at c.in-Some.is variant c.remove.ensures.items
     in rw gone (IsIndexed-remove c.self.inside.index.keys c.self.inside.sessions.items c.remove-in-Some.new.self.keys c.args.session

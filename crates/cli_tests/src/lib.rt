@@ -1,0 +1,5 @@
+//! Tests of a client and its parts, and of the filters of watches.
+#![tactic(auto)]
+
+#[cfg(test)]
+mod filters;

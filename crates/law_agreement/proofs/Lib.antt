@@ -1,0 +1,12 @@
+pub mod Tests
+pub mod Members
+pub mod Others
+pub mod Slices
+pub mod Changes
+pub mod Ballots
+pub mod Followers
+pub mod Leaders
+pub mod Commits
+pub mod Packets
+pub mod Transitions
+pub mod Agreement

@@ -1,0 +1,6 @@
+use Rattle.law_reads.proofs.reads_differ.Goals as goal
+use Rattle.law_reads.specs.Reads as laws
+use Rattle.law_reads.proofs.Transitions.{always}
+
+pub returns : goal.returns
+returns c = always laws.ReadsDiffer (λ n s h. h.serves.once)

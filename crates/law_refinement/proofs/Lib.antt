@@ -1,0 +1,13 @@
+pub mod Tests
+pub mod Members
+pub mod Fragments
+pub mod Rules
+pub mod Elections
+pub mod Leaderships
+pub mod Ballots
+pub mod Conflicts
+pub mod Replications
+pub mod Replies
+pub mod Stores
+pub mod Orders
+pub mod Steps

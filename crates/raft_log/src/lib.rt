@@ -1,0 +1,6 @@
+//! A Raft node's log.
+#![tactic(auto)]
+
+mod log;
+
+pub use log::{Log, copies};

@@ -1,0 +1,5 @@
+use Rattle.std.proofs.Common.{refl}
+use Rattle.rows_run.proofs.cut_off.Goals as goal
+
+pub returns : goal.returns
+returns c = record { items = refl; history = refl }

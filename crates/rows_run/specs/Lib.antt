@@ -1,0 +1,8 @@
+pub mod RowScripts
+pub mod RaftRows
+pub mod Commands
+pub mod Leaders
+pub mod ReadRows
+pub mod Events
+pub mod Kinds
+pub mod Halts

@@ -1,0 +1,4 @@
+pub mod Floors
+pub mod Order
+pub mod Ends
+pub mod Changes

@@ -1,0 +1,4 @@
+pub mod Signs
+pub mod Live
+pub mod Past
+pub mod Kept

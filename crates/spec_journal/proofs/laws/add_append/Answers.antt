@@ -1,5 +1,0 @@
-use Rattle.spec_journal.proofs.Calls.{entries_added}
-use Rattle.spec_journal.proofs.laws.add_append.Goals as goal
-
-pub returns : goal.returns
-returns c = entries_added

@@ -1,5 +1,0 @@
-use Rattle.spec_journal.proofs.Calls.{cut_kept}
-use Rattle.spec_journal.proofs.laws.cut_append.Goals as goal
-
-pub returns : goal.returns
-returns c = cut_kept

@@ -1,5 +1,0 @@
-use Rattle.spec_journal.proofs.Calls.{vote_kept}
-use Rattle.spec_journal.proofs.laws.vote_append.Goals as goal
-
-pub returns : goal.returns
-returns c = vote_kept

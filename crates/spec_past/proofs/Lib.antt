@@ -1,0 +1,12 @@
+pub mod Majorities
+pub mod Logs
+pub mod Held
+pub mod Safety
+pub mod Growth
+pub mod Polls
+pub mod Nodes
+pub mod Commits
+pub mod Ballots
+pub mod Leaders
+pub mod Agreement
+pub mod Later

@@ -1,0 +1,3 @@
+//! The past of a cluster as the laws need it: who voted for whom with which log, the log of each leader, what was acknowledged
+//! and what is committed; what is sound of it, and that each change keeps it so.
+#![tactic(auto)]

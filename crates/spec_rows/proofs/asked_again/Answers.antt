@@ -1,5 +1,0 @@
-use Rattle.std.proofs.Common.{refl}
-use Rattle.spec_rows.proofs.asked_again.Goals as goal
-
-pub returns : goal.returns
-returns c = record { items = refl; history = refl }

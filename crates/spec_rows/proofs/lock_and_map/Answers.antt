@@ -1,5 +1,0 @@
-use Rattle.std.proofs.Common.{refl}
-use Rattle.spec_rows.proofs.lock_and_map.Goals as goal
-
-pub returns : goal.returns
-returns c = record { items = refl; history = refl }

@@ -1,7 +1,0 @@
-use Rattle.std.proofs.Common.{refl}
-use Rattle.spec_wire.specs.Numbers.{u64_bytes, i64_bytes}
-use Rattle.spec_rows.proofs.one_byte_short.Goals as goal
-
-pub returns : goal.returns
-unfolding u64_bytes i64_bytes
-returns c = record { items = refl; history = refl }

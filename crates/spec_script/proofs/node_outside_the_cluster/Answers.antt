@@ -1,7 +1,0 @@
-use Rattle.std.proofs.Common.{refl}
-use Rattle.spec_script.specs.Scripts.{longest_script, is_too_long}
-use Rattle.spec_script.proofs.node_outside_the_cluster.Goals as goal
-
-pub returns : goal.returns
-unfolding longest_script is_too_long
-returns c = refl
