@@ -23,7 +23,7 @@ use Rattle.spec_cluster.specs.Bag as bags
 use Rattle.spec_cluster.specs.Cluster as clusters
 use Rattle.law_agreement.specs.Agreement as laws
 use Rattle.law_agreement.proofs.Tests.{both}
-use Rattle.law_origin.specs.Origin.{IsOneOf, IsAskedFor, IsTaken, WasTaken, HasOrigin, entries_in, AllEntries, EntriesHaveOrigin}
+use Rattle.law_origin.specs.Origin.{IsOneOf, IsAskedFor, IsAsked, WasAsked, HasOrigin, entries_in, AllEntries, EntriesHaveOrigin}
 use Rattle.law_origin.proofs.Each.{by_test, each_append, each_take, each_drop, each_map, each_at, each_change}
 use Rattle.law_origin.proofs.Rules.{Brings, MayBring, did_brings, stepped_log, halted_log}
 
@@ -129,7 +129,7 @@ started_keeps P c k (Some m) is a =
     let u : clusters.Member = record { is_up = true; node = nodes.restarted m.node.ballot.me m.node.ballot.nodes (nodes.kept_of m.node) } in
     by_test (AllEntries P) m.is_up c (clusters.with_member c k u) (λ e. a) (λ e. member_keeps P c k u a (each_at (InLogs P) c.members k m a.logs is))
 
-step_keeps : (P : Entry → Type 0) (c : clusters.Cluster) (r : RaftStep) → ((e : Entry) → e.body ≡ body.Blank → P e) → AllEntries P c → ((e : Entry) → IsTaken c r e → P e) → AllEntries P (clusters.happened c r)
+step_keeps : (P : Entry → Type 0) (c : clusters.Cluster) (r : RaftStep) → ((e : Entry) → e.body ≡ body.Blank → P e) → AllEntries P c → ((e : Entry) → IsAsked c r e → P e) → AllEntries P (clusters.happened c r)
 step_keeps P c (step.Made (input.Crash k)) blank a f = crashed_keeps P c k (at_place c.members k) refl a
 step_keeps P c (step.Made (input.Start k)) blank a f = started_keeps P c k (at_place c.members k) refl a
 step_keeps P c (step.Made (input.Elect k clock)) blank a f = made_keeps P c (clusters.intake c (input.Elect k clock)) blank a (fits P c (input.Elect k clock) a f)
@@ -139,7 +139,7 @@ step_keeps P c (step.Made (input.Read k)) blank a f = made_keeps P c (clusters.i
 step_keeps P c (step.Made (input.Deliver number clock)) blank a f = made_keeps P c (clusters.intake c (input.Deliver number clock)) blank a (fits P c (input.Deliver number clock) a f)
 step_keeps P c (step.Halt i saved added) blank a f = halted_keeps P c (clusters.intake c i) saved added blank a (fits P c i a f)
 
-all_keep : (P : Entry → Type 0) (c : clusters.Cluster) (rs : List RaftStep) → ((e : Entry) → e.body ≡ body.Blank → P e) → AllEntries P c → ((e : Entry) → WasTaken c rs e → P e) → AllEntries P (clusters.all_happened c rs)
+all_keep : (P : Entry → Type 0) (c : clusters.Cluster) (rs : List RaftStep) → ((e : Entry) → e.body ≡ body.Blank → P e) → AllEntries P c → ((e : Entry) → WasAsked c rs e → P e) → AllEntries P (clusters.all_happened c rs)
 all_keep P c [] blank a f = a
 all_keep P c (r ∷ rs) blank a f = all_keep P (clusters.happened c r) rs blank (step_keeps P c r blank a (λ e h. f e (inl h))) (λ e h. f e (inr h))
 

@@ -23,19 +23,19 @@ abbrev pub IsAskedFor : clusters.Cluster → NodeInput → Entry → Type 0
 IsAskedFor c (input.Append k clock bodies) e = (x : nodes.Node) × laws.IsLeader c k x × (x.ballot.term ≡ e.term) × IsOneOf e.body bodies
 IsAskedFor c i e = ⊥
 
--- in a step, made or halted
-abbrev pub IsTaken : clusters.Cluster → RaftStep → Entry → Type 0
-IsTaken c (step.Made i) e = IsAskedFor c i e
-IsTaken c (step.Halt i saved added) e = IsAskedFor c i e
+-- a step, made or halted, asks for it
+abbrev pub IsAsked : clusters.Cluster → RaftStep → Entry → Type 0
+IsAsked c (step.Made i) e = IsAskedFor c i e
+IsAsked c (step.Halt i saved added) e = IsAskedFor c i e
 
 -- in one of these steps
-abbrev pub WasTaken : clusters.Cluster → List RaftStep → Entry → Type 0
-WasTaken c [] e = ⊥
-WasTaken c (r ∷ rs) e = IsTaken c r e ⊎ WasTaken (clusters.happened c r) rs e
+abbrev pub WasAsked : clusters.Cluster → List RaftStep → Entry → Type 0
+WasAsked c [] e = ⊥
+WasAsked c (r ∷ rs) e = IsAsked c r e ⊎ WasAsked (clusters.happened c r) rs e
 
 -- the blank of an election, or what a step asked for
 abbrev pub HasOrigin : ℕ → List RaftStep → Entry → Type 0
-HasOrigin n steps e = (e.body ≡ body.Blank) ⊎ WasTaken (clusters.new_cluster n) steps e
+HasOrigin n steps e = (e.body ≡ body.Blank) ⊎ WasAsked (clusters.new_cluster n) steps e
 
 -- the entries in a packet
 abbrev pub entries_in : Payload → List Entry

@@ -82,7 +82,7 @@ new_read y j c = record { node = j; term = y.ballot.term; arrival = suc y.leadin
 waiting_more : (takens : List clusters.ReadTaken) (t : clusters.ReadTaken) (j u : ℕ) (r : progress.Waiting) → services.IsWaiting takens j u r → services.IsWaiting (takens ++ t ∷ []) j u r
 waiting_more takens t j u r h = record { position = h.position; taken = h.taken; is_there = stays_at takens (t ∷ []) h.position h.taken h.is_there; node = h.node; term = h.term; arrival = h.arrival; place = h.place; round = h.round }
 
-fresh_more : (takens : List clusters.ReadTaken) (t : clusters.ReadTaken) (g : clusters.ReadGiven) → reads.IsFresh takens g → reads.IsFresh (takens ++ t ∷ []) g
+fresh_more : (takens : List clusters.ReadTaken) (t : clusters.ReadTaken) (g : clusters.ReadGiven) → reads.SeesCommitted takens g → reads.SeesCommitted (takens ++ t ∷ []) g
 fresh_more takens t g h = record { position = h.position; taken = h.taken; is_there = stays_at takens (t ∷ []) h.position h.taken h.is_there; node = h.node; term = h.term; arrival = h.arrival; place = h.place; fresh = h.fresh }
 
 pub serve_arrive : (n : ℕ) (s : systems.System) (w : pasts.Past) (x : services.Service) (j : ℕ) (y : nodes.Node) → agreement_pasts.IsPastOf n s w → pasts.Sound (majorities.cluster_of n) w → systems.IsUp s j y → nodes.is_leader y ≡ true → progress.has_read_room y.leading.reads ≡ true → services.IsServiceOf n s w x
@@ -243,7 +243,7 @@ answered_by f r j (q ∷ ps) h =
 
 -- a read that is ready is not older than what was committed when it was taken
 ready_fresh : (n : ℕ) (s : systems.System) (w : pasts.Past) (x : services.Service) (j : ℕ) (y : nodes.Node) (r : progress.Waiting) → agreement_pasts.IsPastOf n s w → pasts.Sound (majorities.cluster_of n) w → systems.IsUp s j y → agreement_pasts.role_number y.role ≡ 2 → services.IsServiceOf n s w x
-    → services.IsWaiting s.cluster.takens j y.ballot.term r → r.round ≤ progress.confirmed_round y.leading.peers → reads.IsFresh s.cluster.takens (record { node = j; term = y.ballot.term; arrival = r.number; place = r.place })
+    → services.IsWaiting s.cluster.takens j y.ballot.term r → r.round ≤ progress.confirmed_round y.leading.peers → reads.SeesCommitted s.cluster.takens (record { node = j; term = y.ballot.term; arrival = r.number; place = r.place })
 ready_fresh n s w x j y r p sound at two i h le =
     let found = read_at (services.IsGood n w x) x.reads h.position h.taken i.good (ap (λ g. lists.at_place g h.position) i.takens ∙ h.is_there) in
     let q = found.0 in
@@ -288,7 +288,7 @@ ready_fresh n s w x j y r p sound at two i h le =
 
 given_fresh : (n : ℕ) (s : systems.System) (w : pasts.Past) (x : services.Service) (j : ℕ) (y : nodes.Node) (rs : List progress.Waiting) → agreement_pasts.IsPastOf n s w → pasts.Sound (majorities.cluster_of n) w → systems.IsUp s j y → agreement_pasts.role_number y.role ≡ 2 → services.IsServiceOf n s w x
     → agreement_pasts.Each (λ r. services.IsWaiting s.cluster.takens j y.ballot.term r × (progress.is_read_ready (progress.confirmed_round y.leading.peers) y.commit r ≡ true)) rs
-    → agreement_pasts.Each (reads.IsFresh s.cluster.takens) (clusters.given_by j y (map (λ r. (r.number, r.place)) rs))
+    → agreement_pasts.Each (reads.SeesCommitted s.cluster.takens) (clusters.given_by j y (map (λ r. (r.number, r.place)) rs))
 given_fresh n s w x j y [] p sound at two i e = tt
 given_fresh n s w x j y (r ∷ rs) p sound at two i e = (
   ready_fresh n s w x j y r p sound at two i e.0.0 (at_most r.round (progress.confirmed_round y.leading.peers) (both (nat_le r.round (progress.confirmed_round y.leading.peers)) (nat_le r.place y.commit) e.0.1).0),
@@ -312,9 +312,9 @@ serve_given n s w x j y p sound at i = record {
   packets = i.packets;
   numbered = i.numbered;
   once = i.once;
-  givens = λ k g h. was_or_new (reads.IsFresh s.cluster.takens) s.cluster.givens (clusters.given_by j y (steps.given y)) k g h (λ q e. i.givens q g e) (elim (same_or (agreement_pasts.role_number y.role) 2) [
+  givens = λ k g h. was_or_new (reads.SeesCommitted s.cluster.takens) s.cluster.givens (clusters.given_by j y (steps.given y)) k g h (λ q e. i.givens q g e) (elim (same_or (agreement_pasts.role_number y.role) 2) [
     | inl two ↦ given_fresh n s w x j y (filter ready y.leading.reads) p sound at two i (each_passing (services.IsWaiting s.cluster.takens j y.ballot.term) ready y.leading.reads (a.server two).waiting)
-    | inr ne ↦ subst (λ rs. agreement_pasts.Each (reads.IsFresh s.cluster.takens) (clusters.given_by j y (map (λ r. (r.number, r.place)) (filter ready rs)))) (sym (a.idle ne)) tt
+    | inr ne ↦ subst (λ rs. agreement_pasts.Each (reads.SeesCommitted s.cluster.takens) (clusters.given_by j y (map (λ r. (r.number, r.place)) (filter ready rs)))) (sym (a.idle ne)) tt
   ]);
 }
   where

@@ -5,7 +5,7 @@ use Rattle.spec_cluster.specs.Cluster as clusters
 
 -- a read that was given was taken by the same node in the same term under the same number, and its place is at least every place
 -- that was committed anywhere when it was taken
-pub record IsFresh (takens : List clusters.ReadTaken) (g : clusters.ReadGiven) : Type 0 where
+pub record SeesCommitted (takens : List clusters.ReadTaken) (g : clusters.ReadGiven) : Type 0 where
   pub position : ℕ
   pub taken : clusters.ReadTaken
   pub is_there : lists.at_place takens position ≡ Some taken
@@ -16,7 +16,7 @@ pub record IsFresh (takens : List clusters.ReadTaken) (g : clusters.ReadGiven) :
   pub fresh : taken.committed ≤ g.place
 
 abbrev pub ReadsAreFresh : ℕ → clusters.Cluster → Type 0
-ReadsAreFresh n c = (i : ℕ) (g : clusters.ReadGiven) → lists.at_place c.givens i ≡ Some g → IsFresh c.takens g
+ReadsAreFresh n c = (i : ℕ) (g : clusters.ReadGiven) → lists.at_place c.givens i ≡ Some g → SeesCommitted c.takens g
 
 -- no two reads of one term have one number
 abbrev pub ReadsDiffer : ℕ → clusters.Cluster → Type 0

@@ -1,2 +1,3 @@
 pub mod FaithfulLemmas
+pub mod FormLemmas
 pub mod ReportLemmas
