@@ -177,6 +177,7 @@ pub record IsRace (script : Script) (taken : List WindowCall) (steps : List Kept
   pub takes : List (List WindowCall)
   pub later : List WindowCall
   pub drawers : List ℕ
+  pub fared : runs.may_run (first_world script) steps ≡ true
   pub within : length steps ≤ runs.most_steps
   pub parts : steps ≡ setup ++ rounds
   pub setup_is : setup ≡ runs.unfolded (first_world script) (runs.works_of script.lines) (runs.outcomes_of setup)

@@ -7,10 +7,8 @@ use Rattle.ax_types.specs.declared.entries.Body.{Body}
 use Rattle.ax_types.specs.declared.entries.Body.TheVariants as body
 use Rattle.ax_types.specs.declared.entries.Entry.{Entry}
 use Rattle.ax_types.specs.declared.entries.Loaded.{Loaded}
-use Rattle.ax_types.specs.declared.ops.Op.{Op}
 use Rattle.spec_raft.specs.Majority as majorities
 use Rattle.spec_raft.specs.Log as logs
-use Rattle.spec_node.specs.Saving as saving
 use Rattle.spec_sessions.specs.Sessions as sessions
 use Rattle.spec_claims.specs.Once as once
 use Rattle.spec_world.specs.Worlds as worlds
@@ -19,7 +17,7 @@ use Rattle.spec_world.specs.Worlds as worlds
 pub record IsContent (h : worlds.Host) (content : Loaded) : Type 0 where
   pub added : ℕ
   pub within : added ≤ length h.at_stake
-  pub same : content ≡ saving.with_rest (worlds.kept_by h) h.at_stake added
+  pub same : content ≡ worlds.content_with h added
 
 abbrev pub AreContents : List worlds.Host → List Loaded → Type 0
 AreContents [] [] = Unit {0}
@@ -38,14 +36,26 @@ pub record IsHeldByMost (contents : List Loaded) (p : ℕ) (e : Entry) : Type 0 
   pub most : IsTrue (majorities.is_most (majorities.count holders (majorities.cluster_of (length contents))) (length contents))
   pub stands : (k : ℕ) → IsTrue (holders k) → StandsInStore e p (lists.at_place contents k)
 
--- the entry of a command's act is that command
-abbrev pub IsCommand : ℕ → List ℕ → Op → Body → Type 0
-IsCommand session name o (body.Command c s seq n x) = (s ≡ session) × (n ≡ name) × (x ≡ o)
-IsCommand session name o _ = ⊥
-
+-- the entry of an act that changes something asks for it; an act that changes nothing may be of any entry
 abbrev pub IsBodyOf : Act → Body → Type 0
-IsBodyOf (act.Do session name o) b = IsCommand session name o b
-IsBodyOf _ b = Unit {0}
+IsBodyOf act.Nothing b = Unit {0}
+IsBodyOf (act.Open client opening) b = b ≡ body.Register client opening
+IsBodyOf (act.Keep session) b = IsKeepOf b
+  where
+    IsKeepOf : Body → Type 0
+    IsKeepOf (body.Keep c s answered heard) = s ≡ session
+    IsKeepOf _ = ⊥
+IsBodyOf (act.Do session name o) b = IsCommandOf b
+  where
+    IsCommandOf : Body → Type 0
+    IsCommandOf (body.Command c s seq n x) = (s ≡ session) × (n ≡ name) × (x ≡ o)
+    IsCommandOf _ = ⊥
+IsBodyOf (act.Close session) b = IsCloseOf b
+  where
+    IsCloseOf : Body → Type 0
+    IsCloseOf (body.Close c s) = s ≡ session
+    IsCloseOf _ = ⊥
+IsBodyOf (act.Expire session) b = b ≡ body.Expire session
 
 pub record IsKeptAt (contents : List Loaded) (p : ℕ) (a : ℕ × Act) : Type 0 where
   pub entry : Entry

@@ -129,8 +129,9 @@ abbrev pub end_at : Option Next → RunEnd
 end_at None = ends.Done
 end_at (Some n) = ends.StepLimit n.line
 
--- the steps are those of the script, all of them or as many as a run may have
+-- the steps are those of the script, all of them or as many as a run may have, and the stores may have fared so in each
 pub record Unfolds (w : worlds.World) (works : List Work) (steps : List KeptStep) : Type 0 where
+  pub fared : may_run w steps ≡ true
   pub same : steps ≡ unfolded w works (outcomes_of steps)
   pub within : length steps ≤ most_steps
   pub whole : (left_after w works steps ≡ None) ⊎ (length steps ≡ most_steps)

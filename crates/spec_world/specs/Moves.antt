@@ -1,5 +1,5 @@
 -- One step of a run, with how the stores fared in it: the world after it, and its items.
-use Rattle.std.specs.Prelude.{ℕ, ◌-◌, Bool, true, false, nat_eq, nat_lt, nat_le, Option, Some, None, List, [], ◌∷◌, ◌++◌, length, drop, map, flat_map, slice_get, if◌then◌else◌}
+use Rattle.std.specs.Prelude.{ℕ, ◌-◌, Bool, true, false, ◌&&◌, nat_eq, nat_lt, nat_le, Option, Some, None, List, [], ◌∷◌, ◌++◌, length, drop, map, flat_map, slice_get, if◌then◌else◌}
 use Rattle.ax_types.specs.declared.entries.Act.{Act}
 use Rattle.ax_types.specs.declared.ids.End.TheVariants as end
 use Rattle.ax_types.specs.declared.items.Item.{Item}
@@ -63,7 +63,7 @@ served w k h i _ = serves w k h i (server_steps.server_out h.server i)
 -- a load that succeeded tells how many entries a failed add had left
 abbrev pub loads : worlds.World → ℕ → worlds.Host → ℕ → Moved
 loads w k h added = record {
-  world = worlds.with_host w k (record { is_up = true; clock = h.clock; server = servers.server_from k (worlds.nodes_of w) w.timeout (saving.with_rest (worlds.kept_by h) h.at_stake added); at_stake = [] });
+  world = worlds.with_host w k (record { is_up = true; clock = h.clock; server = servers.server_from k (worlds.nodes_of w) w.timeout (worlds.content_with h added); at_stake = [] });
   items = [];
 }
 
@@ -100,16 +100,16 @@ abbrev pub moved : worlds.World → KeptStep → Moved
 moved w s = carried (plans.plan w s.step) s.outcome
 
 -- whether the stores may have fared so: a step fails at one of its store calls, a load at itself, and a load that succeeds
--- finds at most the entries at stake
+-- finds at most the entries at stake, and no more in all than counts
 abbrev pub may_serve : ℕ → StepOutcome → Bool
 may_serve calls outcome.Fine = true
 may_serve calls (outcome.Failed saved) = nat_lt saved calls
 may_serve calls (outcome.Loaded added) = false
 
-abbrev pub may_load : ℕ → StepOutcome → Bool
-may_load entries outcome.Fine = false
-may_load entries (outcome.Failed saved) = nat_eq saved 0
-may_load entries (outcome.Loaded added) = nat_le added entries
+abbrev pub may_load : worlds.Host → StepOutcome → Bool
+may_load h outcome.Fine = false
+may_load h (outcome.Failed saved) = nat_eq saved 0
+may_load h (outcome.Loaded added) = nat_le added (length h.at_stake) && worlds.is_loadable (worlds.content_with h added)
 
 abbrev pub is_fine : StepOutcome → Bool
 is_fine outcome.Fine = true
@@ -117,7 +117,7 @@ is_fine _ = false
 
 abbrev pub may_carry : plans.Plan → StepOutcome → Bool
 may_carry (plans.Serves w k h i) o = may_serve (length (saving.calls_of (server_steps.server_out h.server i).saves)) o
-may_carry (plans.Loads w k h) o = may_load (length h.at_stake) o
+may_carry (plans.Loads w k h) o = may_load h o
 may_carry (plans.Asks w c s next) o = is_fine o
 may_carry (plans.Shows w items) o = is_fine o
 

@@ -1,5 +1,5 @@
 -- The state of a run: the servers with their clocks, the clients with their watches, the network, and the history.
-use Rattle.std.specs.Prelude.{ℕ, suc, Bool, true, false, ◌&&◌, nat_lt, Option, Some, None, List, [], ◌∷◌, length, map, if◌then◌else◌}
+use Rattle.std.specs.Prelude.{ℕ, suc, Bool, true, false, ◌&&◌, nat_lt, nat_le, Option, Some, None, List, [], ◌∷◌, length, map, if◌then◌else◌}
 use Rattle.ax_types.specs.Places as lists
 use Rattle.ax_types.specs.declared.entries.Act.{Act}
 use Rattle.ax_types.specs.declared.entries.Entry.{Entry}
@@ -10,6 +10,7 @@ use Rattle.ax_types.specs.declared.steps.WatchKind.{WatchKind}
 use Rattle.spec_raft.specs.Positions as positions
 use Rattle.spec_raft.specs.Majority as majorities
 use Rattle.spec_node.specs.Node as raft_nodes
+use Rattle.spec_node.specs.Saving as saving
 use Rattle.spec_cluster.specs.Bag as bags
 use Rattle.spec_server.specs.Servers as server_servers
 use Rattle.spec_client.specs.Clients as client_clients
@@ -35,6 +36,17 @@ pub record World : Type 0 where
   pub bag : bags.Bag
   pub history : List (ℕ × Act)
 
+-- the greatest term, and the most entries, of a load that counts
+unfoldable pub greatest_loaded_term : ℕ
+greatest_loaded_term = 4294967295
+
+unfoldable pub most_loaded_entries : ℕ
+most_loaded_entries = 16777215
+
+-- a load above either counts as one that failed
+abbrev pub is_loadable : Loaded → Bool
+is_loadable content = nat_le content.term greatest_loaded_term && nat_le (length content.log) most_loaded_entries
+
 abbrev pub new_host : ℕ → ℕ → ℕ → Host
 new_host nodes timeout k = record { is_up = true; clock = 0; server = server_servers.new_server k nodes timeout; at_stake = [] }
 
@@ -57,6 +69,10 @@ with_watcher w c s = record w { seats = positions.change_place (λ old. s) w.sea
 -- what a host's store keeps for sure
 abbrev pub kept_by : Host → Loaded
 kept_by h = raft_nodes.kept_of h.server.raft
+
+-- what its store holds where so many of the entries at stake stayed
+abbrev pub content_with : Host → ℕ → Loaded
+content_with h added = saving.with_rest (kept_by h) h.at_stake added
 
 -- a host that is down, with this in its store, and of a failed add these entries at stake
 abbrev pub fallen_host : World → ℕ → Host → Loaded → List Entry → Host
