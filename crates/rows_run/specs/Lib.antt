@@ -6,3 +6,4 @@ pub mod ReadRows
 pub mod Events
 pub mod Kinds
 pub mod Halts
+pub mod Instances

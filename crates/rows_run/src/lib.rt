@@ -13,7 +13,12 @@ ghost use Rattle.ax_types.specs.declared.replies.Reply.TheVariants as reply;
 ghost use Rattle.spec_raft.specs.Log as logs;
 ghost use Rattle.spec_raft.specs.Progress as progress;
 ghost use Rattle.spec_cluster.specs.Bag as bags;
+ghost use Rattle.spec_claims.specs.Payloads as payloads;
+ghost use Rattle.spec_claims.specs.Transcript as transcripts;
+ghost use Rattle.spec_run.specs.KeptStores as kept_stores;
+ghost use Rattle.spec_run.specs.Run as runs;
 ghost use Rattle.rows_run.specs.Halts as halts;
+ghost use Rattle.rows_run.specs.Instances as instances;
 ghost use Rattle.rows_run.specs.RaftRows as raft_rows;
 ghost use Rattle.ax_types.specs.declared.steps.StepOutcome.TheVariants as outcome;
 ghost use Rattle.rows_report.specs.ReportRows as report_rows;
@@ -292,4 +297,29 @@ pub fn session_table()
         ∷ (act.Expire 2, None)
         ∷ (act.Nothing, Some (1, payload.Ended 2 9 how.Expired))
         ∷ [] }
+{}
+
+/// The steps of a run are those of its script, and the stores may have fared so in each.
+pub fn steps_unfold()
+    ensures { runs.Unfolds instances.first_world instances.works instances.steps }
+{}
+
+/// What the store keeps is what the run leaves there.
+pub fn stores_hold()
+    ensures { kept_stores.AreContents (runs.run 1 1 1000 instances.steps).world.hosts instances.contents }
+{}
+
+/// A majority of the stores keeps the history of the run.
+pub fn history_is_kept()
+    ensures { kept_stores.IsKept instances.contents instances.history }
+{}
+
+/// The newest log of each majority of the stores begins with the history of the run.
+pub fn history_is_left()
+    ensures { kept_stores.IsLeft instances.contents instances.history 1000 }
+{}
+
+/// What the answer's packet tells the client is true.
+pub fn answer_is_true()
+    ensures { payloads.IsTruePayload (transcripts.transcript (runs.run 1 1 1000 instances.steps).shown) instances.history 1 instances.answer }
 {}
