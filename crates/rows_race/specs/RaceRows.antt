@@ -8,8 +8,10 @@ use Rattle.ax_types.specs.declared.ops.LongOp.TheVariants as long_op
 use Rattle.ax_types.specs.declared.ops.Op.TheVariants as op
 use Rattle.ax_types.specs.declared.ops.WindowCall.{WindowCall}
 use Rattle.ax_types.specs.declared.ops.WindowCall.TheVariants as call
+use Rattle.ax_types.specs.declared.scripts.CallerLine.{CallerLine}
 use Rattle.ax_types.specs.declared.scripts.Line.{Line}
 use Rattle.ax_types.specs.declared.scripts.Line.TheVariants as line
+use Rattle.ax_types.specs.declared.scripts.Script.{Script}
 use Rattle.ax_types.specs.declared.steps.KeptStep.{KeptStep}
 use Rattle.ax_types.specs.declared.steps.Step.{Step}
 use Rattle.ax_types.specs.declared.steps.Step.TheVariants as step
@@ -26,6 +28,13 @@ setup_lines = (2, line.Do (step.Elect 1)) ∷ (3, line.Do (step.Open 1 1)) ∷ (
 -- `call long c add 5`
 abbrev pub one_call : WindowCall
 one_call = call.Command (codes "c") (op.Long (long_op.Add (pos 5)))
+
+-- `caller 1 1 call long c add 5`
+abbrev pub one_caller : List CallerLine
+one_caller = record { line = 5; caller = 1; count = 1; call = one_call } ∷ []
+
+abbrev pub small_race : Script
+small_race = record { nodes = 1; clients = 1; timeout = 1000; lines = setup_lines; callers = one_caller; plan = []; feeds = []; last_line = 5 }
 
 abbrev pub fine_steps : List Step → List KeptStep
 fine_steps steps = map (λ s. record { step = s; outcome = outcome.Fine }) steps

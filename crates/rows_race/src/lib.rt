@@ -15,6 +15,11 @@ pub fn one_caller_row()
     ensures round { races.raced [] (race_rows.set_up_with ((race_rows.one_call ∷ []) ∷ [])) (race_rows.five_fine ++ race_rows.five_fine) ≡ race_rows.round_steps }
 {}
 
+/// Its steps are those of a race of the script.
+pub fn one_caller_race()
+    ensures { races.IsRace race_rows.small_race (race_rows.one_call ∷ []) (race_rows.setup_steps ++ race_rows.round_steps) }
+{}
+
 /// Where the only node crashes in round 1 the pump stops after 64 rounds that gave no outcome, and the call is left open.
 pub fn dead_rounds_row()
     ensures steps { races.raced race_rows.crash_plan (race_rows.set_up_with race_rows.dead_takes) race_rows.many_fine ≡ race_rows.dead_steps }
