@@ -2,7 +2,7 @@ ghost use Rattle.std.specs.Prelude.{◌≡◌, ◌≤◌, ◌<◌, ◌^◌, Some
 ghost use Rattle.ax_types.specs.declared.limits.TheConstants.{MAX_NODES};
 ghost use Rattle.ax_types.specs.Places as lists;
 ghost use Rattle.spec_raft.specs.Log as logs;
-ghost use Rattle.spec_node.specs.Node as nodes;
+ghost use Rattle.spec_node.specs.Node as raft_nodes;
 
 use crate::leading::Leading;
 use ax_types::{Entry, List, Loaded, NodeId};
@@ -49,7 +49,7 @@ impl RaftNode {
     pub fn new(alloc: Global, me: NodeId, nodes: u8) -> Self
         requires member { me ≤ nodes }
         requires within { nodes ≤ MAX_NODES }
-        ensures { result ≡ nodes.new_node me nodes }
+        ensures { result ≡ raft_nodes.new_node me nodes }
     {
         let nothing = Loaded {
             term: 0,
@@ -63,7 +63,7 @@ impl RaftNode {
     pub fn restart(alloc: Global, me: NodeId, nodes: u8, kept: Loaded) -> Self
         requires member { me ≤ nodes }
         requires within { nodes ≤ MAX_NODES }
-        ensures { result ≡ nodes.restarted me nodes kept }
+        ensures { result ≡ raft_nodes.restarted me nodes kept }
     {
         RaftNode {
             alloc,
@@ -85,14 +85,14 @@ impl RaftNode {
 
     /// Whether the node leads.
     pub fn is_leader(&self) -> bool
-        ensures { result ≡ nodes.is_leader self.now }
+        ensures { result ≡ raft_nodes.is_leader self.now }
     {
         matches!(self.role, Role::Leader)
     }
 
     /// Whether the node stands for election.
     pub(crate) fn is_candidate(&self) -> bool
-        ensures { result ≡ nodes.is_candidate self.now }
+        ensures { result ≡ raft_nodes.is_candidate self.now }
     {
         matches!(self.role, Role::Candidate)
     }
@@ -130,7 +130,7 @@ impl RaftNode {
 
     /// The time of a new entry: the greater of a clock and the time of the last entry (Ongaro 2014, 6.3).
     pub(crate) fn time_for(&self, clock: u64) -> u64
-        ensures { result ≡ nodes.time_for self.now clock }
+        ensures { result ≡ raft_nodes.time_for self.now clock }
     {
         clock.max(self.log.last_time())
     }

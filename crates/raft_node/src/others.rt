@@ -1,6 +1,7 @@
-ghost use Rattle.std.specs.Prelude.{◌≡◌, ◌≤◌, ◌∷◌, [], IfSome, IfNone};
+ghost use Rattle.std.specs.Prelude.{◌≡◌, ◌≤◌, ◌<◌, ◌-◌, ◌^◌, ◌∷◌, [], IfSome, IfNone};
 ghost use Rattle.ax_types.specs.declared.limits.TheConstants.{MAX_NODES};
 ghost use Rattle.spec_raft.specs.Majority as counts;
+ghost use Rattle.raft_node.specs.Others as rest;
 
 use ax_types::NodeId;
 use std::marker::Model;
@@ -14,7 +15,7 @@ pub struct Others {
 }
 
 impl Model for Others {
-    ghost use Rattle.std.specs.Prelude.{ℕ, ◌≤◌, List as Items};
+    ghost use Rattle.std.specs.Prelude.{ℕ, ◌+◌, ◌≤◌, List as Items};
     ghost use Rattle.ax_types.specs.declared.limits.TheConstants.{MAX_NODES};
     ghost use Rattle.raft_node.specs.Others as rest;
 
@@ -22,7 +23,7 @@ impl Model for Others {
 
     ghost view = { λ a. rest.others_from a.me a.nodes a.next };
 
-    ghost invariant = { λ a. (1 ≤ a.next) × (a.nodes ≤ MAX_NODES) };
+    ghost invariant = { λ a. (1 ≤ a.next) × (a.next ≤ a.nodes + 1) × (a.nodes ≤ MAX_NODES) };
 }
 
 impl Others {
@@ -39,14 +40,23 @@ impl Others {
         ensures none { IfNone result (self.old ≡ []) }
         ensures some { IfSome result (λ node. self.old ≡ node ∷ self.new) }
     {
-        if self.next == self.me.number() {
-            self.next += 1;
-        }
-        if self.next > self.nodes {
+        let number = next_other(self.me, self.next);
+        if number > self.nodes {
             return None;
         }
-        let node = NodeId::new(self.next);
-        self.next += 1;
-        node
+        self.next = number + 1;
+        NodeId::new(number)
+    }
+}
+
+/// The first number from one on that is not this node's.
+fn next_other(me: NodeId, number: u8) -> u8
+    requires { number < 2 ^ 8 - 1 }
+    ensures { result ≡ rest.next_from me number }
+{
+    if number == me.number() {
+        number + 1
+    } else {
+        number
     }
 }
