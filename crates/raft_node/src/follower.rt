@@ -1,4 +1,4 @@
-ghost use Rattle.std.specs.Prelude.{◌≡◌, ◌≤◌, length, IfOk, OnOk, false, true};
+ghost use Rattle.std.specs.Prelude.{◌≡◌, ◌-◌, ◌^◌, ◌<◌, ◌≤◌, length, drop, IfOk, OnOk, false, true};
 ghost use Rattle.spec_raft.specs.Log as logs;
 ghost use Rattle.spec_node.specs.Node as nodes;
 ghost use Rattle.raft_node.specs.Outcomes as outcomes;
@@ -6,8 +6,9 @@ ghost use Rattle.raft_node.specs.Outcomes as outcomes;
 use crate::did::Did;
 use crate::node::{RaftNode, Role};
 use crate::packets::{packet, single};
-use ax_types::{Entry, List, NoMemory, NodeId, Packet, Payload};
+use ax_types::{Change, Entry, List, NoMemory, NodeId, Packet, Payload};
 use raft_log::copies;
+use std::alloc::Global;
 
 impl RaftNode {
     /// The answer to an append packet.
@@ -55,7 +56,21 @@ impl RaftNode {
         }
     }
 
-    /// The log is made to hold the entries sent, and what of it is committed is learnt (Ongaro 2014, 3.5).
+    /// The log is made to hold the entries sent, and what of it is committed is learnt (Ongaro 2014, 3.5). Answers what
+    /// was cut, and how many entries were added.
+    fn hold_sent(&mut self, prev: u64, commit: u64, sent: &[Entry]) -> Result<Change, NoMemory>
+        requires within { prev ≤ length self.old.log }
+        requires small { prev < 2 ^ 63 }
+        requires stays { nodes.is_committed self.old (logs.first_conflict self.old.log prev sent.now) ≡ false }
+        ensures change { IfOk result (λ change. change ≡ logs.change_of self.old.log prev sent.now) }
+        ensures after { OnOk result (self.new ≡ nodes.held_sent self.old prev commit sent.now) }
+    {
+        let change = self.log.cut_and_add(prev, sent)?;
+        self.commit = self.commit.max(commit.min(prev + sent.len() as u64));
+        Ok(change)
+    }
+
+    /// The entries sent are taken: the answer says so, and those that were lacking are to be saved (Ongaro 2014, 3.5).
     fn sent_taken(
         &mut self,
         from: NodeId,
@@ -65,17 +80,15 @@ impl RaftNode {
         sent: &[Entry],
     ) -> Result<Did, NoMemory>
         requires within { prev ≤ length self.old.log }
+        requires small { prev < 2 ^ 63 }
         requires stays { nodes.is_committed self.old (logs.first_conflict self.old.log prev sent.now) ≡ false }
         ensures did { IfOk result (λ did. did ≡ outcomes.shown (nodes.sent_taken self.old from prev commit round sent.now)) }
         ensures after { OnOk result (self.new ≡ (nodes.sent_taken self.old from prev commit round sent.now).node) }
     {
-        let last = prev + sent.len() as u64;
-        let mut did = self.replying(from, true, last, round)?;
-        let change = self.log.cut_and_add(prev, sent)?;
-        self.commit = self.commit.max(commit.min(last));
-        let held = sent.len() - change.added as usize;
+        let mut did = self.replying(from, true, prev + sent.len() as u64, round)?;
+        let change = self.hold_sent(prev, commit, sent)?;
         did.cut = change.cut;
-        did.add = List::from_vec(copies(self.alloc, &sent[held..])?);
+        did.add = last_of(self.alloc, sent, change.added)?;
         Ok(did)
     }
 
@@ -93,8 +106,9 @@ impl RaftNode {
         ensures did { IfOk result (λ did. did ≡ outcomes.shown (nodes.append_followed self.old from prev prev_term commit round sent.now)) }
         ensures after { OnOk result (self.new ≡ (nodes.append_followed self.old from prev prev_term commit round sent.now).node) }
     {
+        let last = self.log.last();
         if !self.log.match_at(prev, prev_term) {
-            let hint = prev.saturating_sub(1).min(self.log.last());
+            let hint = prev.saturating_sub(1).min(last);
             return self.replying(from, false, hint, round);
         }
         let conflict = self.log.first_conflict(prev, sent);
@@ -128,4 +142,13 @@ impl RaftNode {
         self.follow(from);
         self.append_followed(from, prev, prev_term, commit, round, sent)
     }
+}
+
+/// Copies of the last so many entries.
+fn last_of(alloc: Global, entries: &[Entry], count: u64) -> Result<List<Entry>, NoMemory>
+    requires { count ≤ length entries.now }
+    ensures { IfOk result (λ last. last ≡ drop (length entries.now - count) entries.now) }
+{
+    let first = entries.len() - count as usize;
+    Ok(List::from_vec(copies(alloc, &entries[first..])?))
 }
