@@ -45,19 +45,19 @@ sent_within log sent prev h =
     omega (arith, stay, held_length (logs.stays log prev sent) sent prev)
 
 below : (n : nodes.Node) (c : Option ℕ) (q : ℕ) → nodes.is_committed n c ≡ false → c ≡ Some q → n.commit < q
-below n None q no e = absurd (cc e)
-below n (Some p) q no e = let same : p ≡ q = cc e in grind (arith, nat_tests, same, no)
+below n None q kept e = absurd (cc e)
+below n (Some p) q kept e = let same : p ≡ q = cc e in grind (arith, nat_tests, same, kept)
 
 -- and none that is committed is gone
 commit_stays : (n : nodes.Node) (sent : List Entry) (prev : ℕ) → n.commit ≤ length n.log → nodes.is_committed n (logs.first_conflict n.log prev sent) ≡ false → n.commit ≤ length (logs.cut_and_added n.log prev sent)
-commit_stays n sent prev h no =
-    let stay : n.commit ≤ length (logs.stays n.log prev sent) = stays_to (logs.first_conflict n.log prev sent) n.log n.commit h (λ q e. below n (logs.first_conflict n.log prev sent) q no e) in
+commit_stays n sent prev h kept =
+    let stay : n.commit ≤ length (logs.stays n.log prev sent) = stays_to (logs.first_conflict n.log prev sent) n.log n.commit h (λ q e. below n (logs.first_conflict n.log prev sent) q kept e) in
     omega (arith, stay, held_length (logs.stays n.log prev sent) sent prev)
 
 -- what a leader tells of its commit lets the commit rise within the log
 pub held_within : (n : nodes.Node) (sent log : List Entry) (prev told commit : ℕ) → prev ≤ length n.log → n.commit ≤ length n.log → nodes.is_committed n (logs.first_conflict n.log prev sent) ≡ false
     → log ≡ logs.cut_and_added n.log prev sent → commit ≡ max n.commit (min told (prev + length sent)) → commit ≤ length log
-held_within n sent log prev told commit h k no e f = omega (arith, f, ap length e, sent_within n.log sent prev h, commit_stays n sent prev k no)
+held_within n sent log prev told commit h k kept e f = omega (arith, f, ap length e, sent_within n.log sent prev h, commit_stays n sent prev k kept)
 
 -- of the entries sent, the last so many as were added
 pub last_added : (log sent : List Entry) (prev : ℕ) → drop (length sent - length (logs.added log prev sent)) sent ≡ logs.added log prev sent
