@@ -1,8 +1,8 @@
 -- Which places a log has after it grew, and after it was made to hold what a leader sent.
-use Rattle.std.proofs.Common.{◌≡◌, ℕ, zero, suc, ◌+◌, ◌-◌, ◌<◌, ◌≤◌, min, max, List, [], ◌∷◌, ◌++◌, length, take, drop, length-append, length-drop, refl, ap, sym, ◌∙◌, arith}
-use Rattle.std.specs.Prelude.{Bool, true, false, nat_eq, nat_le, cond, Option, Some, None}
+use Rattle.std.proofs.Common.{◌≡◌, ℕ, zero, suc, ◌+◌, ◌-◌, ◌<◌, ◌≤◌, min, max, List, [], ◌∷◌, ◌++◌, length, take, drop, length-append, length-drop, refl, ap, ◌∙◌, arith}
+use Rattle.std.specs.Prelude.{Bool, true, false, nat_eq, cond, Option, Some, None}
 use Rattle.std.proofs.lemmas.Bool.Decides.{nat_tests}
-use Rattle.std.proofs.lemmas.List.{drop_min, take_rest, length-take}
+use Rattle.std.proofs.lemmas.List.{length-take}
 use Rattle.ax_types.specs.declared.entries.Entry.{Entry}
 use Rattle.spec_raft.specs.Log as logs
 use Rattle.spec_raft.specs.Progress as progresses
@@ -58,13 +58,3 @@ commit_stays n sent prev h kept =
 pub held_within : (n : nodes.Node) (sent log : List Entry) (prev told commit : ℕ) → prev ≤ length n.log → n.commit ≤ length n.log → nodes.is_committed n (logs.first_conflict n.log prev sent) ≡ false
     → log ≡ logs.cut_and_added n.log prev sent → commit ≡ max n.commit (min told (prev + length sent)) → commit ≤ length log
 held_within n sent log prev told commit h k kept e f = omega (arith, f, ap length e, sent_within n.log sent prev h, commit_stays n sent prev k kept)
-
--- of the entries sent, the last so many as were added
-pub last_added : (log sent : List Entry) (prev : ℕ) → drop (length sent - length (logs.added log prev sent)) sent ≡ logs.added log prev sent
-last_added log sent prev =
-    let k = length (logs.stays log prev sent) - prev in
-    let count : length sent - length (drop k sent) ≡ min k (length sent) = omega (arith, length-drop k sent) in
-    ap (λ n. drop n sent) count ∙ drop_min k sent
-
-pub added_within : (log sent : List Entry) (prev : ℕ) → length (logs.added log prev sent) ≤ length sent
-added_within log sent prev = omega (arith, length-drop (length (logs.stays log prev sent) - prev) sent)

@@ -1,5 +1,5 @@
 -- What a rule gives beside the node, and what a step makes of it.
-use Rattle.std.specs.Prelude.{ℕ, ◌&&◌, nat_eq, Bool, Option, Some, None, List, [], ◌∷◌, length, if◌then◌else◌}
+use Rattle.std.specs.Prelude.{ℕ, ◌&&◌, nat_eq, Bool, Option, Some, None, [], ◌∷◌, length, if◌then◌else◌}
 use Rattle.ax_types.specs.declared.packets.Packet.{Packet}
 use Rattle.ax_types.specs.declared.packets.Payload.TheVariants as payload
 use Rattle.ax_types.specs.declared.raft.Out.{Out}

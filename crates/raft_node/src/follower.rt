@@ -1,4 +1,4 @@
-ghost use Rattle.std.specs.Prelude.{◌≡◌, ◌-◌, ◌^◌, ◌<◌, ◌≤◌, length, drop, IfOk, OnOk, false, true};
+ghost use Rattle.std.specs.Prelude.{◌≡◌, ◌-◌, ◌^◌, ◌<◌, ◌≤◌, length, drop, IfOk, OnOk, false};
 ghost use Rattle.spec_raft.specs.Log as logs;
 ghost use Rattle.spec_node.specs.Node as nodes;
 ghost use Rattle.raft_node.specs.Outcomes as outcomes;
@@ -25,13 +25,7 @@ impl RaftNode {
     }
 
     /// That answer alone.
-    fn replying(
-        &self,
-        from: NodeId,
-        ok: bool,
-        place: u64,
-        round: u64,
-    ) -> Result<Did, NoMemory>
+    fn replying(&self, from: NodeId, ok: bool, place: u64, round: u64) -> Result<Did, NoMemory>
         ensures { IfOk result (λ did. did ≡ outcomes.replying self.now from ok place round) }
     {
         let packets = single(self.alloc, self.reply_to(from, ok, place, round))?;

@@ -1,4 +1,4 @@
-ghost use Rattle.std.specs.Prelude.{◌≡◌, ◌-◌, ◌^◌, ◌<◌, ◌≤◌, map, IfOk, OnOk};
+ghost use Rattle.std.specs.Prelude.{◌≡◌, ◌-◌, ◌^◌, ◌<◌, map, IfOk, OnOk};
 ghost use Rattle.spec_node.specs.Node as nodes;
 ghost use Rattle.raft_node.specs.Outcomes as outcomes;
 

@@ -1,4 +1,4 @@
-ghost use Rattle.std.specs.Prelude.{◌≡◌, ◌≤◌, ◌<◌, ◌^◌, Some, length};
+ghost use Rattle.std.specs.Prelude.{◌≡◌, ◌≤◌, Some, length};
 ghost use Rattle.ax_types.specs.declared.limits.TheConstants.{MAX_NODES};
 ghost use Rattle.ax_types.specs.Places as lists;
 ghost use Rattle.spec_raft.specs.Log as logs;

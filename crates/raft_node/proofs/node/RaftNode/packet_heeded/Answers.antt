@@ -1,8 +1,3 @@
-use Rattle.std.proofs.Common.{◌≡◌, ◌∙◌, sym, subst}
-use Rattle.std.specs.Prelude.{IfOk, OnOk}
-use Rattle.spec_node.specs.Node as nodes
-use Rattle.spec_node.specs.NodeStep as node_steps
-use Rattle.raft_node.specs.Outcomes as outcomes
 use Rattle.raft_node.proofs.node.RaftNode.packet_heeded.Goals as goal
 
 pub returns-in-AppendReply-clause-did : goal.returns-in-AppendReply-clause-did

@@ -1,4 +1,3 @@
-use Rattle.std.proofs.Common.{arith}
 use Rattle.raft_node.proofs.Rest.{popped_node}
 use Rattle.raft_node.proofs.others.Others.pop.Goals as goal
 
