@@ -13,9 +13,6 @@ from_more me k n m e = ap (λ x. filter (λ j. not (nat_eq j me)) (lists.numbers
 none_left : (me k n : ℕ) → n ≡ 0 → filter (λ j. not (nat_eq j me)) (lists.numbers_from k n) ≡ []
 none_left me k n e = ap (λ x. filter (λ j. not (nat_eq j me)) (lists.numbers_from k x)) e
 
-after : (nodes k : ℕ) → suc nodes - suc k ≡ suc nodes - (k + 1)
-after nodes k = omega arith
-
 same_rest : (me nodes k : ℕ) → filter (λ j. not (nat_eq j me)) (lists.numbers_from (suc k) (nodes - k)) ≡ others_from me nodes (k + 1)
 same_rest me nodes k =
     let one : suc k ≡ k + 1 = omega arith in
@@ -30,7 +27,7 @@ equal : (k me : ℕ) → k ≡ me → nat_eq k me ≡ true
 equal k me e = grind (arith, nat_tests, e)
 
 -- a node that is not the one left out comes first
-pub first : (me nodes k : ℕ) → k ≤ nodes → (k ≡ me → ⊥) → others_from me nodes k ≡ k ∷ others_from me nodes (k + 1)
+first : (me nodes k : ℕ) → k ≤ nodes → (k ≡ me → ⊥) → others_from me nodes k ≡ k ∷ others_from me nodes (k + 1)
 first me nodes k within ne =
     let more : suc nodes - k ≡ suc (nodes - k) = omega (arith, within) in
     from_more me k (suc nodes - k) (nodes - k) more
