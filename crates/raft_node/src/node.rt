@@ -1,0 +1,137 @@
+ghost use Rattle.std.specs.Prelude.{◌≡◌, ◌≤◌, Some, length};
+ghost use Rattle.ax_types.specs.declared.limits.TheConstants.{MAX_NODES};
+ghost use Rattle.ax_types.specs.Places as lists;
+ghost use Rattle.spec_raft.specs.Log as logs;
+ghost use Rattle.spec_node.specs.Node as raft_nodes;
+
+use crate::leading::Leading;
+use ax_types::{Entry, List, Loaded, NodeId};
+use raft_log::Log;
+use raft_vote::Ballot;
+use std::alloc::Global;
+use std::marker::Model;
+
+/// Which of the three parts a node takes (Ongaro 2014, 3.3).
+#[derive(Drop)]
+pub enum Role {
+    Follower,
+    Candidate,
+    Leader,
+}
+
+/// A Raft node, which contracts see as the node of the definitions (Ongaro 2014, figure 3.1). After want of memory in a
+/// step nothing is said of it, and no further step is to be made.
+#[derive(Drop)]
+pub struct RaftNode {
+    pub(crate) alloc: Global,
+    pub(crate) ballot: Ballot,
+    pub(crate) log: Log,
+    pub(crate) role: Role,
+    pub(crate) leader: Option<NodeId>,
+    pub(crate) commit: u64,
+    pub(crate) leading: Leading,
+}
+
+impl Model for RaftNode {
+    ghost use Rattle.std.specs.Prelude.{◌≤◌, length};
+    ghost use Rattle.spec_node.specs.Node as nodes;
+    ghost use Rattle.raft_node.specs.Roles as roles;
+
+    ghost Value = { nodes.Node };
+
+    ghost view = { λ a. record { ballot = a.ballot; log = a.log; role = roles.role_of a.role; leader = a.leader; commit = a.commit; leading = a.leading } };
+
+    ghost invariant = { λ a. a.commit ≤ length a.log };
+}
+
+impl RaftNode {
+    /// A node of a cluster, to which nothing has happened. It takes no memory.
+    pub fn new(alloc: Global, me: NodeId, nodes: u8) -> Self
+        requires member { me ≤ nodes }
+        requires within { nodes ≤ MAX_NODES }
+        ensures { result ≡ raft_nodes.new_node me nodes }
+    {
+        let nothing = Loaded {
+            term: 0,
+            vote: None,
+            log: List::new(alloc),
+        };
+        RaftNode::restart(alloc, me, nodes, nothing)
+    }
+
+    /// A node after its store was loaded: all but what was kept is as at the beginning. It takes no memory.
+    pub fn restart(alloc: Global, me: NodeId, nodes: u8, kept: Loaded) -> Self
+        requires member { me ≤ nodes }
+        requires within { nodes ≤ MAX_NODES }
+        ensures { result ≡ raft_nodes.restarted me nodes kept }
+    {
+        RaftNode {
+            alloc,
+            ballot: Ballot::new(me, nodes, kept.term, kept.vote),
+            log: Log::from_entries(kept.log),
+            role: Role::Follower,
+            leader: None,
+            commit: 0,
+            leading: Leading::none(alloc, me),
+        }
+    }
+
+    /// The term.
+    pub fn term(&self) -> u64
+        ensures { result ≡ self.now.ballot.term }
+    {
+        self.ballot.term()
+    }
+
+    /// Whether the node leads.
+    pub fn is_leader(&self) -> bool
+        ensures { result ≡ raft_nodes.is_leader self.now }
+    {
+        matches!(self.role, Role::Leader)
+    }
+
+    /// Whether the node stands for election.
+    pub(crate) fn is_candidate(&self) -> bool
+        ensures { result ≡ raft_nodes.is_candidate self.now }
+    {
+        matches!(self.role, Role::Candidate)
+    }
+
+    /// The known leader of the term.
+    pub fn leader(&self) -> Option<NodeId>
+        ensures { result ≡ self.now.leader }
+    {
+        self.leader
+    }
+
+    /// The greatest place that the node knows to be committed, 0 where there is none. Its log has an entry there.
+    pub fn commit(&self) -> u64
+        ensures commit { result ≡ self.now.commit }
+        ensures within { result ≤ length self.now.log }
+    {
+        self.commit
+    }
+
+    /// The time of the last entry, 0 where there is none.
+    pub fn last_time(&self) -> u64
+        ensures { result ≡ logs.last_time self.now.log }
+    {
+        self.log.last_time()
+    }
+
+    /// The entry at a committed place.
+    pub fn entry(&self, place: u64) -> &Entry
+        requires above { 1 ≤ place }
+        requires within { place ≤ self.now.commit }
+        ensures { lists.at_place self.now.log place ≡ Some result.now }
+    {
+        self.log.entry(place)
+    }
+
+    /// The time of a new entry: the greater of a clock and the time of the last entry (Ongaro 2014, 6.3).
+    pub(crate) fn time_for(&self, clock: u64) -> u64
+        ensures { result ≡ raft_nodes.time_for self.now clock }
+    {
+        clock.max(self.log.last_time())
+    }
+}
