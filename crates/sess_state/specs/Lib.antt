@@ -1,4 +1,2 @@
 pub mod Boxes
 pub mod Walk
-pub mod Seen
-pub mod Sound

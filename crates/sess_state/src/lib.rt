@@ -1,12 +1,6 @@
 //! The session state: what committed entries make of the sessions and of the book (Ongaro 2014, 6.3).
 #![tactic(auto)]
 
-mod answers;
-mod effects;
-mod shares;
 mod outbox;
 mod outboxes;
-mod parts;
-mod state;
-
-pub use state::SessState;
+mod shares;

@@ -21,12 +21,17 @@ pub struct Outboxes {
 
 impl Model for Outboxes {
     ghost use Rattle.std.specs.Prelude.{map, List as Items};
+    ghost use Rattle.std.specs.Ordering.{nat_cmp};
+    ghost use Rattle.std.specs.List.Sorted.{IsStrictlySortedBy};
+    ghost use Rattle.std.specs.Map.{keys_of};
     ghost use Rattle.spec_sessions.specs.Outboxes.{Outbox as Kept};
     ghost use Rattle.sess_state.specs.Boxes.{box_seen};
 
     ghost Value = { Items Kept };
 
     ghost view = { λ a. map box_seen a.boxes.entries };
+
+    ghost invariant = { λ a. IsStrictlySortedBy nat_cmp (keys_of a.boxes.entries) };
 }
 
 impl Outboxes {
@@ -100,9 +105,10 @@ impl Outboxes {
     pub fn trim(&mut self, session: u64, answered: u64, heard: u64)
         ensures { self.new ≡ boxes.change_outbox (boxes.trimmed answered heard) session self.old }
     {
-        if let Some(outbox) = self.boxes.get_mut(&session) {
-            outbox.trim(answered, heard);
-        }
+        let Some(outbox) = self.boxes.get_mut(&session) else {
+            return;
+        };
+        outbox.trim(answered, heard);
     }
 
     /// Keeps the reply of a session's next command.
@@ -110,10 +116,11 @@ impl Outboxes {
         requires { kept.seq ≡ boxes.last_seq self.old session + 1 }
         ensures { OnOk result (self.new ≡ boxes.change_outbox (boxes.with_reply kept) session self.old) }
     {
-        match self.boxes.get_mut(&session) {
-            Some(outbox) => outbox.keep(kept),
-            None => Ok(()),
-        }
+        let Some(outbox) = self.boxes.get_mut(&session) else {
+            return Ok(());
+        };
+        outbox.keep(kept)?;
+        Ok(())
     }
 
     /// Keeps the events of a session at a place as a batch, unless there are none. Answers that batch.
@@ -130,10 +137,11 @@ impl Outboxes {
         if events.is_empty() {
             return Ok(None);
         }
-        match self.boxes.get_mut(&session) {
-            Some(outbox) => Ok(Some(outbox.tell(place, events)?)),
-            None => Ok(None),
-        }
+        let Some(outbox) = self.boxes.get_mut(&session) else {
+            return Ok(None);
+        };
+        let batch = outbox.tell(place, events)?;
+        Ok(Some(batch))
     }
 
     /// Each live session that is told events at a place gets them as a batch. Answers the batches by session.
@@ -142,7 +150,8 @@ impl Outboxes {
         place: u64,
         told: List<(u64, Event)>,
     ) -> Result<List<(u64, Batch)>, NoMemory>
-        requires { AllByRecursion (λ o. o.batches.last < place) self.old }
+        requires some { 0 < place }
+        requires earlier { AllByRecursion (λ o. o.batches.last < place) self.old }
         ensures batches { IfOk result (λ due. due ≡ boxes.batches_due place told self.old) }
         ensures after { OnOk result (self.new ≡ boxes.all_told place told self.old) }
     {
