@@ -3,6 +3,7 @@ use Rattle.std.proofs.Common.{◌≡◌, ℕ, ◌<◌, ◌∙◌, refl, sym, ap,
 use Rattle.std.specs.declared.cmp.Ordering.{Ordering}
 use Rattle.std.specs.declared.cmp.Ordering.TheVariants.{Less, Equal, Greater}
 use Rattle.std.specs.Ordering.{is_eq, nat_cmp, match_ordering}
+use Rattle.std.specs.Prelude.{◌↔◌, IsTrue}
 use Rattle.std.specs.Option.{option_map}
 use Rattle.std.specs.List.{AllByRecursion}
 use Rattle.std.specs.List.Sorted.{IsStrictlySortedBy}
@@ -10,9 +11,12 @@ use Rattle.std.specs.BTreeMap.{is_at, insert_entry}
 use Rattle.std.specs.Map.{keys_of, lookup, remove_entry, set_value}
 use Rattle.std.proofs.lemmas.Bool.Decides.{nat_tests}
 use Rattle.std.proofs.lemmas.Map.Keys.{sorted_head, sorted_tail}
+use Rattle.ax_types.specs.declared.entries.Batch.{Batch}
+use Rattle.ax_types.specs.declared.replies.Event.{Event}
 use Rattle.spec_sessions.specs.Outboxes as boxes
 use Rattle.sess_state.specs.declared.outbox.Outbox.{Outbox as Kept}
 use Rattle.sess_state.specs.Boxes.{box_seen}
+use Rattle.sess_state.specs.Walk as walks
 
 -- the two tests of a key
 pub at_is_eq : (a b : ℕ) → is_at (nat_cmp a) b ≡ nat_eq b a
@@ -134,3 +138,31 @@ there session es o h = found session es ∙ ap (option_map (λ (x : Kept). box_s
 
 pub not_there : (session : ℕ) (es : List (ℕ × Kept)) → lookup (is_at (nat_cmp session)) es ≡ None → boxes.outbox_of (map box_seen es) session ≡ None
 not_there session es h = found session es ∙ ap (option_map (λ (x : Kept). box_seen (session, x))) h
+
+-- ---- a session that is told events
+
+not_empty : (r : Bool) (events : List Event) → (IsTrue r ↔ (events ≡ [])) → r ≡ false → events ≡ [] → ⊥
+not_empty r events h f e = let t : r ≡ true = h.1 e in cc
+
+pub nothing_told : (place session : ℕ) (events : List Event) (kept : List boxes.Outbox) → events ≡ [] → kept ≡ boxes.change_outbox (boxes.box_with place events) session kept
+nothing_told place session events kept e =
+    let P : List Event → Type 0 = λ es. kept ≡ boxes.change_outbox (boxes.box_with place es) session kept in
+    subst P (sym e) (none kept)
+  where
+    none : (kept : List boxes.Outbox) → kept ≡ boxes.change_outbox (boxes.box_with place []) session kept
+    none [] = refl
+    none (o ∷ kept) = ap (λ (xs : List boxes.Outbox). o ∷ xs) (none kept) ∙ ap (λ (x : boxes.Outbox). x ∷ boxes.change_outbox (boxes.box_with place []) session kept) (either (nat_eq o.session session) o)
+      where
+        either : (b : Bool) (o : boxes.Outbox) → o ≡ cond b o o
+        either true o = refl
+        either false o = refl
+
+pub box_told : (place session : ℕ) (events : List Event) (was is : Kept) (r : Bool) → (IsTrue r ↔ (events ≡ [])) → r ≡ false
+    → is ≡ record was { batches = boxes.with_batch was.batches place events } → box_seen (session, is) ≡ boxes.box_with place events (box_seen (session, was))
+box_told place session [] was is r h f e = absurd (not_empty r [] h f refl)
+box_told place session (x ∷ events) was is r h f e = ap (λ (o : Kept). box_seen (session, o)) e
+
+pub batch_told : (place session : ℕ) (events : List Event) (was : Kept) (batch : Batch) (r : Bool) → (IsTrue r ↔ (events ≡ [])) → r ≡ false
+    → batch ≡ boxes.batch_of was.batches place events → option_map (λ (b : Batch). (session, b)) (Some batch) ≡ walks.batch_in place events (Some (box_seen (session, was)))
+batch_told place session [] was batch r h f e = absurd (not_empty r [] h f refl)
+batch_told place session (x ∷ events) was batch r h f e = ap (λ (b : Batch). Some (session, b)) e

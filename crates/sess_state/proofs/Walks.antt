@@ -3,7 +3,7 @@ use Rattle.std.proofs.Common.{◌≡◌, ℕ, ◌<◌, ◌∙◌, refl, sym, ap,
 use Rattle.std.specs.declared.cmp.Ordering.{Ordering}
 use Rattle.std.specs.declared.cmp.Ordering.TheVariants.{Less, Equal, Greater}
 use Rattle.std.specs.Ordering.{is_eq, nat_cmp}
-use Rattle.std.specs.Option.{unwrap_or}
+use Rattle.std.specs.Option.{unwrap_or, option_map}
 use Rattle.std.specs.List.{AllByRecursion}
 use Rattle.std.specs.List.Sorted.{IsStrictlySortedBy}
 use Rattle.std.specs.BTreeMap.{is_at}
@@ -293,3 +293,31 @@ may_walk place shares kept ordered some below = may_walk_from place shares kept 
     all : (shares : walks.Shares) → AllEarlier place shares kept
     all [] = tt
     all (s ∷ shares) = (last_below place s.0 kept some below, all shares)
+
+-- ---- the turns
+
+-- what a walk that has come so far still owes: these batches and outboxes in the end, and the turns in between
+abbrev pub IsOnWay : ℕ → List (ℕ × Event) → List boxes.Outbox → List (ℕ × Batch) → walks.Shares → List boxes.Outbox → Type 0
+IsOnWay place told start due rest kept =
+    (due ++ walks.walked_batches place rest kept ≡ boxes.batches_due place told start) × (walks.walked place rest kept ≡ boxes.all_told place told start) × walks.MayWalk place rest kept
+
+pub begun : (place : ℕ) (told : List (ℕ × Event)) (due : List (ℕ × Batch)) (rest shares : walks.Shares) (kept : List boxes.Outbox) → due ≡ [] → rest ≡ shares
+    → AreInOrder shares → AreRising kept → ((q : ℕ) → walks.share_of shares q ≡ boxes.told_to q told) → 0 < place → AllByRecursion (λ o. o.batches.last < place) kept
+    → IsOnWay place told kept due rest kept
+begun place told due rest shares kept none all ordered rises same some earlier =
+    let P : List (ℕ × Batch) → Type 0 = λ d. IsOnWay place told kept d rest kept in
+    let Q : walks.Shares → Type 0 = λ r. IsOnWay place told kept [] r kept in
+    subst P (sym none) (subst Q (sym all)
+      (walked_due place told shares kept ordered rises same, walked_all place told shares kept ordered same, may_walk place shares kept ordered some earlier))
+
+pub gone_by : (place : ℕ) (told : List (ℕ × Event)) (start : List boxes.Outbox) (due : List (ℕ × Batch)) (rest more : walks.Shares) (kept now : List boxes.Outbox)
+    (s : ℕ × List Event) (b : Option Batch) → rest ≡ s ∷ more → option_map (λ (b : Batch). (s.0, b)) b ≡ walks.batch_in place s.1 (boxes.outbox_of kept s.0)
+    → now ≡ walks.with_share place s kept → b ≡ None → IsOnWay place told start due rest kept → IsOnWay place told start due more now
+gone_by place told start due rest more kept now s b first told_is after none way =
+    let P : walks.Shares → Type 0 = λ r. IsOnWay place told start due r kept in
+    let here : IsOnWay place told start due (s ∷ more) kept = subst P first way in
+    let nobody : walks.batch_in place s.1 (boxes.outbox_of kept s.0) ≡ None = sym told_is ∙ ap (option_map (λ (b : Batch). (s.0, b))) none in
+    let nothing : due ++ walks.walked_batches place (s ∷ more) kept ≡ due ++ walks.walked_batches place more (walks.with_share place s kept) =
+      ap (λ (f : Option (ℕ × Batch)). due ++ (walks.listed f ++ walks.walked_batches place more (walks.with_share place s kept))) nobody in
+    let Q : List boxes.Outbox → Type 0 = λ k. IsOnWay place told start due more k in
+    subst Q (sym after) (sym nothing ∙ here.0, here.1, here.2.1)

@@ -155,8 +155,9 @@ impl Outboxes {
         ensures batches { IfOk result (λ due. due ≡ boxes.batches_due place told self.old) }
         ensures after { OnOk result (self.new ≡ boxes.all_told place told self.old) }
     {
+        let shares = shares::by_session(self.alloc, told)?;
         let mut due = List::new(self.alloc);
-        'shares: for (session, events) in shares::by_session(self.alloc, told)? {
+        'shares: for (session, events) in shares {
             if let Some(batch) = self.tell_one(place, session, events)? {
                 due.push((session, batch))?;
             }
