@@ -26,6 +26,7 @@ at_is_eq a b = by_tests (nat_lt a b) (nat_eq a b) ∙ tests
     by_tests true e = refl
     by_tests false true = refl
     by_tests false false = refl
+
     tests : cond (nat_lt a b) false (nat_eq a b) ≡ nat_eq b a
     tests = grind (arith, nat_tests)
 
@@ -92,7 +93,7 @@ changed f session (e ∷ es) was is sorted there does =
   where
     by_test : (b : Bool) → nat_eq e.0 session ≡ b
         → (lookup (is_at (nat_cmp session)) es ≡ Some was → box_seen (session, is) ≡ f (box_seen (session, was))
-          → map box_seen (set_value (is_at (nat_cmp session)) es is) ≡ boxes.change_outbox f session (map box_seen es))
+        → map box_seen (set_value (is_at (nat_cmp session)) es is) ≡ boxes.change_outbox f session (map box_seen es))
         → map box_seen (cond b ((e.0, is) ∷ es) (e ∷ set_value (is_at (nat_cmp session)) es is))
         ≡ cond b (f (box_seen e)) (box_seen e) ∷ boxes.change_outbox f session (map box_seen es)
     by_test true h more =

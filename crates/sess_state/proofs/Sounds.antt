@@ -201,8 +201,8 @@ effect_sound s place time (body.Keep client session answered heard) some below =
 effect_sound s place time (body.Command client session seq name o) some below = commanding_sound place session seq name o s (sessions.session_state s session) below
 effect_sound s place time (body.Close client session) some below =
     closing_sound place session s (sessions.session_state s session) below (λ e.
-        let there = state_some (tables.live_session s.table session) (tables.past_session s.table session) e in
-        live_below place session there.0 s.table.live below.0.0 there.1)
+    let there = state_some (tables.live_session s.table session) (tables.past_session s.table session) e in
+    live_below place session there.0 s.table.live below.0.0 there.1)
 effect_sound s place time (body.Expire session) some below = expiring_sound place time session s below
 
 -- ---- the state after an entry
@@ -256,9 +256,10 @@ commanding_live_next s session seq name o last is = by_test (nat_eq seq (suc las
   where
     other : sessions.Effect
     other = cond (nat_le seq last) (sessions.again_from s session (boxes.kept_reply s.boxes session seq)) (sessions.only_answer s (Some (payload.Gap session last)))
+
     by_test : (b : Bool) → nat_eq seq (suc last) ≡ b
         → NextIn (cond b (record (sessions.nothing s) { act = act.Do session name o; command = Some (session, seq) })
-          (cond (nat_le seq last) (sessions.again_from s session (boxes.kept_reply s.boxes session seq)) (sessions.only_answer s (Some (payload.Gap session last)))))
+        (cond (nat_le seq last) (sessions.again_from s session (boxes.kept_reply s.boxes session seq)) (sessions.only_answer s (Some (payload.Gap session last)))))
     by_test true e = let same : seq ≡ suc last = grind (arith, nat_tests) in same ∙ ap suc is
     by_test false e = choose NextIn (nat_le seq last) _ _ (again_next s session (boxes.kept_reply s.boxes session seq)) tt
 
@@ -294,10 +295,12 @@ last_told place told (o ∷ kept) q = one (boxes.told_to o.session told) ∙ by_
         ≡ cond b x.cache.last (boxes.last_seq (boxes.all_told place told kept) q)
     pick true x = refl
     pick false x = refl
+
     one : (events : List Event) → boxes.last_seq (boxes.box_with place events o ∷ boxes.all_told place told kept) q
         ≡ cond (nat_eq o.session q) o.cache.last (boxes.last_seq (boxes.all_told place told kept) q)
     one [] = pick (nat_eq o.session q) o
     one (e ∷ events) = pick (nat_eq o.session q) (boxes.box_with place (e ∷ events) o)
+
     by_test : (b : Bool) → boxes.last_seq (boxes.all_told place told kept) q ≡ boxes.last_seq kept q
         → cond b o.cache.last (boxes.last_seq (boxes.all_told place told kept) q) ≡ boxes.last_seq_in (cond b (Some o) (boxes.outbox_of kept q))
     by_test true more = refl

@@ -33,6 +33,7 @@ rising (e ∷ es) sorted = (above e.0 es (sorted_head nat_cmp e.0 (keys_of es) s
   where
     below : (a b : ℕ) → nat_cmp a b ≡ Less → a < b
     below a b h = grind (arith, nat_tests)
+
     above : (k : ℕ) (es : List (ℕ × Kept)) → AllByRecursion (λ y. nat_cmp k y ≡ Less) (keys_of es) → IsAbove k (map box_seen es)
     above k [] a = tt
     above k (e ∷ es) a = (below k e.0 a.0, above k es a.1)
@@ -51,6 +52,7 @@ in_order (s ∷ shares) sorted = (above s.0 shares (sorted_head nat_cmp s.0 (key
   where
     below : (a b : ℕ) → nat_cmp a b ≡ Less → a < b
     below a b h = grind (arith, nat_tests)
+
     above : (k : ℕ) (shares : walks.Shares) → AllByRecursion (λ y. nat_cmp k y ≡ Less) (keys_of shares) → AreAbove k shares
     above k [] a = tt
     above k (s ∷ shares) a = (below k s.0 a.0, above k shares a.1)
@@ -137,8 +139,10 @@ other_found place events k q (o ∷ kept) h = by_test (nat_eq o.session k) refl 
   where
     moved : boxes.Outbox
     moved = boxes.box_with place events o
+
     not_it : (a : ℕ) → a ≡ k → nat_eq a q ≡ false
     not_it a e = let P : ℕ → Type 0 = λ x. nat_eq x q ≡ false in subst P (sym e) h
+
     by_test : (b : Bool) → nat_eq o.session k ≡ b
         → boxes.outbox_of (boxes.change_outbox (boxes.box_with place events) k kept) q ≡ boxes.outbox_of kept q
         → boxes.outbox_of (cond b (boxes.box_with place events o) o ∷ boxes.change_outbox (boxes.box_with place events) k kept) q ≡ boxes.outbox_of (o ∷ kept) q
@@ -209,12 +213,16 @@ standing_head place (s ∷ shares) o kept ordered above = by_order (nat_cmp s.0 
   where
     at_less : nat_cmp s.0 o.session ≡ Less → s.0 < o.session
     at_less e = grind (arith, nat_tests)
+
     at_equal : nat_cmp s.0 o.session ≡ Equal → s.0 ≡ o.session
     at_equal e = grind (arith, nat_tests)
+
     at_greater : nat_cmp s.0 o.session ≡ Greater → o.session < s.0
     at_greater e = grind (arith, nat_tests)
+
     first : Option boxes.Outbox → List (ℕ × Batch)
     first found = walks.listed (walks.batch_in place s.1 found)
+
     by_order : (c : Ordering) → nat_cmp s.0 o.session ≡ c
         → standing place shares (o ∷ kept) ≡ boxes.batch_due place (walks.share_of shares o.session) o ++ standing place shares kept
         → standing place (s ∷ shares) (o ∷ kept) ≡ boxes.batch_due place (walks.share_of (s ∷ shares) o.session) o ++ standing place (s ∷ shares) kept
@@ -308,7 +316,7 @@ begun place told due rest shares kept none all ordered rises same some earlier =
     let P : List (ℕ × Batch) → Type 0 = λ d. IsOnWay place told kept d rest kept in
     let Q : walks.Shares → Type 0 = λ r. IsOnWay place told kept [] r kept in
     subst P (sym none) (subst Q (sym all)
-      (walked_due place told shares kept ordered rises same, walked_all place told shares kept ordered same, may_walk place shares kept ordered some earlier))
+    (walked_due place told shares kept ordered rises same, walked_all place told shares kept ordered same, may_walk place shares kept ordered some earlier))
 
 pub gone_by : (place : ℕ) (told : List (ℕ × Event)) (start : List boxes.Outbox) (due : List (ℕ × Batch)) (rest more : walks.Shares) (kept now : List boxes.Outbox)
     (s : ℕ × List Event) (b : Option Batch) → rest ≡ s ∷ more → option_map (λ (b : Batch). (s.0, b)) b ≡ walks.batch_in place s.1 (boxes.outbox_of kept s.0)
@@ -318,6 +326,6 @@ gone_by place told start due rest more kept now s b first told_is after none way
     let here : IsOnWay place told start due (s ∷ more) kept = subst P first way in
     let nobody : walks.batch_in place s.1 (boxes.outbox_of kept s.0) ≡ None = sym told_is ∙ ap (option_map (λ (b : Batch). (s.0, b))) none in
     let nothing : due ++ walks.walked_batches place (s ∷ more) kept ≡ due ++ walks.walked_batches place more (walks.with_share place s kept) =
-      ap (λ (f : Option (ℕ × Batch)). due ++ (walks.listed f ++ walks.walked_batches place more (walks.with_share place s kept))) nobody in
+    ap (λ (f : Option (ℕ × Batch)). due ++ (walks.listed f ++ walks.walked_batches place more (walks.with_share place s kept))) nobody in
     let Q : List boxes.Outbox → Type 0 = λ k. IsOnWay place told start due more k in
     subst Q (sym after) (sym nothing ∙ here.0, here.1, here.2.1)

@@ -24,10 +24,7 @@ pub fn body_client(body: &Body) -> Option<ClientId>
 }
 
 /// An answer goes to the client that the body names.
-pub fn answer_to(
-    client: Option<ClientId>,
-    payload: Option<Payload>,
-) -> Option<(ClientId, Payload)>
+pub fn answer_to(client: Option<ClientId>, payload: Option<Payload>) -> Option<(ClientId, Payload)>
     ensures { result ≡ sessions.answer_to client payload }
 {
     client.zip(payload)

@@ -146,13 +146,7 @@ impl Parts {
 
     /// A command of a live session: the next one is carried out, an earlier one gets its reply again, a later one shows
     /// a gap.
-    fn command_live(
-        &self,
-        session: u64,
-        seq: u64,
-        name: &Name,
-        op: &Op,
-    ) -> Result<Effect, NoMemory>
+    fn command_live(&self, session: u64, seq: u64, name: &Name, op: &Op) -> Result<Effect, NoMemory>
         ensures { IfOk result (λ effect. effect ≡ seen.effect_seen (sessions.commanding_live (seen.parts_seen self.now) session seq name.now op.now (boxes.last_seq self.now.boxes session))) }
     {
         let last = self.boxes.last_seq(session);

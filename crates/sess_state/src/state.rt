@@ -5,9 +5,7 @@ ghost use Rattle.spec_sessions.specs.Sessions as sessions;
 
 use crate::outboxes::Outboxes;
 use crate::parts::Parts;
-use ax_types::{
-    Applied, Asked, Batch, Entry, List, Name, NoMemory, Query, Ready, SessionState,
-};
+use ax_types::{Applied, Asked, Batch, Entry, List, Name, NoMemory, Query, Ready, SessionState};
 use res_registry::Book;
 use sess_table::Table;
 use std::alloc::Global;
