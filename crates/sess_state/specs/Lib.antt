@@ -1,0 +1,4 @@
+pub mod Boxes
+pub mod Walk
+pub mod Seen
+pub mod Sound
