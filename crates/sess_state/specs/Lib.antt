@@ -1,4 +1,0 @@
-pub mod Boxes
-pub mod Walk
-pub mod Seen
-pub mod Sound
