@@ -2,4 +2,4 @@ use Rattle.std.proofs.Common.{◌≡◌, false}
 use Rattle.res_tests.proofs.acts.walk.Given as goal
 
 abbrev pub invariant-rows : goal.invariant-rows
-invariant-rows l = l.book.is_spent ≡ false
+invariant-rows g l = l.book.is_spent ≡ false
