@@ -1,0 +1,5 @@
+pub mod Ends
+pub mod Links
+pub mod Ways
+pub mod Packets
+pub mod Reasons
