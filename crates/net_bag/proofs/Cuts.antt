@@ -10,11 +10,7 @@ use Rattle.spec_cluster.specs.Bag as bags
 use Rattle.net_bag.specs.Ends as ends
 use Rattle.net_bag.specs.Links as cut_links
 use Rattle.net_bag.proofs.Numbers.{end_small, between_number, between_same, between-self}
-use Rattle.net_bag.proofs.Flags.{get-replicate, get-set_same, get-set_other, any-push, any-without, any-beside, true_count, count-set_true, count-set_false, count-set_still, count_room, count_most, filter_most, filter_fewer}
-
-not_true : (x : Bool) → (x ≡ true → ⊥) → x ≡ false
-not_true true f = absurd (f refl)
-not_true false f = refl
+use Rattle.net_bag.proofs.Flags.{not_true, get-replicate, get-set_same, get-set_other, any-push, any-without, any-beside, true_count, count-set_true, count-set_false, count-set_still, count_room, count_most, filter_most, filter_fewer}
 
 -- where the numbers of two links differ, one is not between the other's ends
 apart : (a b c d : End) (l : bags.Link) → ends.link_number c d ≢ ends.link_number a b → bags.is_between c d l ≡ true → bags.is_between a b l ≡ false

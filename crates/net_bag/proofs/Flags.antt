@@ -4,6 +4,10 @@ use Rattle.std.specs.Prelude.{slice_get}
 use Rattle.std.specs.List.{list_any}
 use Rattle.spec_raft.specs.Majority as majorities
 
+pub not_true : (x : Bool) → (x ≡ true → ⊥) → x ≡ false
+not_true true f = absurd (f refl)
+not_true false f = refl
+
 pub get-set_same : {X : Type 0} (xs : List X) (i : ℕ) (x : X) → i < length xs → slice_get (set xs i x) i ≡ Some x
 get-set_same [] i x h = absurd (omega (arith, h))
 get-set_same (y ∷ xs) zero x h = refl

@@ -70,7 +70,7 @@ or_swap false false = refl
 pub between-swap : (a b : End) (l : bags.Link) → bags.is_between a b l ≡ bags.is_between b a l
 between-swap a b l = or_swap (bags.same_end l.one a && bags.same_end l.other b) (bags.same_end l.one b && bags.same_end l.other a)
 
-both : (x y : Bool) → x && y ≡ true → (x ≡ true) × (y ≡ true)
+pub both : (x y : Bool) → x && y ≡ true → (x ≡ true) × (y ≡ true)
 both true true e = (refl, refl)
 both true false e = cc
 both false y e = cc

@@ -39,6 +39,7 @@ impl Way {
     fn push(&mut self, number: u64) -> Result<(), NoMemory>
         ensures ok { OnOk result (self.new ≡ way_lists.with_number number self.old) }
         ensures err { OnErr result (self.new ≡ self.old) }
+        ensures ends { (self.new.from ≡ self.old.from) × (self.new.to ≡ self.old.to) }
     {
         self.waiting.push_back(number)?;
         Ok(())
@@ -139,7 +140,8 @@ impl Ways {
         ensures err { OnErr result (self.new ≡ self.old) }
     {
         let way = &mut self.ways[place];
-        way.push(number)
+        way.push(number)?;
+        Ok(())
     }
 
     /// Lets the numbers in front of the way at a place go that are not those of packets that wait.
