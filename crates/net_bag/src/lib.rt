@@ -3,5 +3,6 @@
 
 mod ends;
 mod links;
+mod packets;
 mod slots;
 mod ways;

@@ -116,19 +116,23 @@ impl Ways {
 
     /// The place of the way from one end to another, which is added where no packet was sent on it yet. The ways are
     /// unchanged after want of memory.
-    pub(crate) fn place_for(&mut self, from: End, to: End) -> Result<usize, NoMemory>
-        ensures there { IfOk result (λ i. way_lists.IsPlaceOf self.new from to i) }
-        ensures ok { OnOk result (self.new ≡ way_lists.with_way self.old from to) }
+    pub(crate) fn place_for(&mut self, from: &End, to: &End) -> Result<usize, NoMemory>
+        ensures there { IfOk result (λ i. way_lists.IsPlaceOf self.new from.now to.now i) }
+        ensures ok { OnOk result (self.new ≡ way_lists.with_way self.old from.now to.now) }
         ensures err { OnErr result (self.new ≡ self.old) }
     {
-        let number = way_number(&from, &to);
+        let number = way_number(from, to);
         let place = self.places[number];
         if place > 0 {
             return Ok(place - 1);
         }
         let place = self.ways.len();
         let waiting = VecDeque::new(*self.ways.allocator());
-        self.ways.push(Way { from, to, waiting })?;
+        self.ways.push(Way {
+            from: *from,
+            to: *to,
+            waiting,
+        })?;
         self.places[number] = place + 1;
         Ok(place)
     }
