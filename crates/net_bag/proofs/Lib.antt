@@ -4,3 +4,7 @@ pub mod Cuts
 pub mod Table
 pub mod Waiting
 pub mod Sending
+pub mod First
+pub mod Newest
+pub mod Shown
+pub mod Kept

@@ -136,7 +136,7 @@ served_more : (ways more : List way_lists.Way) (slots : List bags.KeptPacket) �
 served_more ways more [] h = h
 served_more ways more (s ∷ slots) h = (any_more (way_lists.goes s.packet) ways more h.0, served_more ways more slots h.1)
 
-any_same : (p q : way_lists.Way → Bool) → ((w : way_lists.Way) → p w ≡ q w) → (ways : List way_lists.Way) → list_any p ways ≡ list_any q ways
+pub any_same : (p q : way_lists.Way → Bool) → ((w : way_lists.Way) → p w ≡ q w) → (ways : List way_lists.Way) → list_any p ways ≡ list_any q ways
 any_same p q same [] = refl
 any_same p q same (w ∷ ways) = ap (λ b. b || list_any p ways) (same w) ∙ ap (λ b. q w || b) (any_same p q same ways)
 
@@ -149,7 +149,7 @@ same_end-swap (end.Node j) (end.Client d) = refl
 same_end-swap (end.Client c) (end.Node k) = refl
 same_end-swap (end.Client c) (end.Client d) = eq_swap c d
 
-on_ends : (a b : End) (p : Packet) → way_lists.is_on a b p ≡ true → (w : way_lists.Way) → way_lists.goes p w ≡ way_lists.is_from a b w
+pub on_ends : (a b : End) (p : Packet) → way_lists.is_on a b p ≡ true → (w : way_lists.Way) → way_lists.goes p w ≡ way_lists.is_from a b w
 on_ends a b p on w =
     let t = both (bags.same_end a p.«from») (bags.same_end b p.to) on in
     ap (λ (x : End). bags.same_end w.«from» x && bags.same_end w.to p.to) (sym (same_end-true a p.«from» t.0))

@@ -3,3 +3,4 @@ pub mod Links
 pub mod Ways
 pub mod Packets
 pub mod Reasons
+pub mod Fronts

@@ -1,14 +1,16 @@
-ghost use Rattle.std.specs.Prelude.{◌≡◌, ℕ, suc, ◌+◌, ◌<◌, ◌≤◌, Some, [], ◌∷◌, ◌++◌, length, IfOk, IfErr, OnOk, OnErr, true};
+ghost use Rattle.std.specs.Prelude.{◌≡◌, ℕ, suc, ◌+◌, ◌^◌, ◌<◌, ◌≤◌, Some, [], ◌∷◌, ◌++◌, length, IfOk, IfErr, OnOk, OnErr, true, drop, take, map};
 ghost use Rattle.std.specs.Option.{option_map};
 ghost use Rattle.spec_raft.specs.Positions as positions;
 ghost use Rattle.spec_cluster.specs.Bag as bags;
 ghost use Rattle.net_bag.specs.Packets as kept_packets;
 ghost use Rattle.net_bag.specs.Reasons as reasons;
+ghost use Rattle.net_bag.specs.Fronts as way_fronts;
 
 use crate::slots::Slot;
-use crate::ways::Ways;
+use crate::ways::{Way, Ways};
 
-use ax_types::{Packet, TakeRefused};
+use ax_types::limits::MAX_SHOWN;
+use ax_types::{Item, List, NoMemory, Packet, Payload, PayloadKind, TakeRefused};
 use std::alloc::Global;
 use std::collections::VecDeque;
 use std::marker::Model;
@@ -60,6 +62,7 @@ impl Packets {
     fn gone(&self) -> u64
         ensures gone { result ≡ bags.gone self.now }
         ensures all { result + length self.now.kept ≡ self.now.sent }
+        ensures fits { self.now.sent < 2 ^ 64 }
     {
         self.sent - self.kept.len() as u64
     }
@@ -123,9 +126,9 @@ impl Packets {
         let Ok(place) = self.ways.place_for(&packet.from, &packet.to) else {
             return Err(packet);
         };
-        if self.ways.push(place, number).is_err() {
+        let Ok(()) = self.ways.push(place, number) else {
             return Err(packet);
-        }
+        };
         self.kept.push_back_reserved(Slot {
             is_marked: false,
             packet,
@@ -142,7 +145,96 @@ impl Packets {
     {
         let oldest = self.gone() + 1;
         self.mark(oldest);
-        self.kept.pop_front();
+        drop_first(&mut self.kept);
+    }
+
+    /// How many of those kept are not marked.
+    pub(crate) fn unmarked(&self) -> usize
+        ensures { result ≡ bags.pending_count self.now }
+    {
+        self.unmarked
+    }
+
+    /// The first 64 of those kept that are not marked.
+    pub(crate) fn first_items(&self) -> Result<List<Item>, NoMemory>
+        ensures { IfOk result (λ items. items ≡ bags.pending_items self.now) }
+    {
+        first_items(&self.kept, self.gone(), MAX_SHOWN.min(self.unmarked))
+    }
+
+    /// The ways on which packets were sent. The first number on each is that of the first packet on it that waits.
+    pub(crate) fn ways(&self) -> &[Way]
+        ensures { way_fronts.AreFronts (suc (bags.gone self.now)) self.now.kept result.now }
+    {
+        let _kept = &self.kept;
+        self.ways.as_slice()
+    }
+}
+
+/// Drops the first packet.
+fn drop_first(kept: &mut VecDeque<Slot>)
+    ensures { kept.new.items ≡ drop 1 kept.old.items }
+{
+    if let Some(slot) = kept.pop_front() {
+        drop_slot(slot);
+    }
+}
+
+/// Drops a packet.
+fn drop_slot(_slot: Slot) {}
+
+/// The first packets that are not marked, as items and at most so many, where so many are no longer kept.
+fn first_items(kept: &VecDeque<Slot>, gone: u64, most: usize) -> Result<List<Item>, NoMemory>
+    requires { gone + length kept.now.items < 2 ^ 64 }
+    ensures { IfOk result (λ items. items ≡ map bags.pending_item (take most (bags.unmarked_from (suc gone) kept.now.items))) }
+{
+    let mut items = List::new(*kept.allocator());
+    'slots: for i in 0..kept.len() {
+        if items.len() >= most {
+            return Ok(items);
+        }
+        let slot = &kept[i];
+        if !slot.is_marked {
+            items.push(pending_item(gone + i as u64 + 1, &slot.packet))?;
+        }
+    }
+    Ok(items)
+}
+
+/// The item of a packet that waits.
+fn pending_item(number: u64, packet: &Packet) -> Item
+    ensures { result ≡ bags.pending_item (number, packet.now) }
+{
+    Item::Pending {
+        number,
+        from: packet.from,
+        to: packet.to,
+        kind: kind_of(&packet.payload),
+    }
+}
+
+/// The kind of a payload.
+fn kind_of(payload: &Payload) -> PayloadKind
+    ensures { result ≡ bags.kind_of payload.now }
+{
+    match payload {
+        Payload::Vote { .. } => PayloadKind::Vote,
+        Payload::VoteReply { .. } => PayloadKind::VoteReply,
+        Payload::Append { .. } => PayloadKind::Append,
+        Payload::AppendReply { .. } => PayloadKind::AppendReply,
+        Payload::Register { .. } => PayloadKind::Register,
+        Payload::Keep { .. } => PayloadKind::Keep,
+        Payload::Command { .. } => PayloadKind::Command,
+        Payload::Close { .. } => PayloadKind::Close,
+        Payload::Query { .. } => PayloadKind::Query,
+        Payload::Connect { .. } => PayloadKind::Connect,
+        Payload::Reset { .. } => PayloadKind::Reset,
+        Payload::Opened { .. } => PayloadKind::Opened,
+        Payload::Reply { .. } => PayloadKind::Reply,
+        Payload::Gap { .. } => PayloadKind::Gap,
+        Payload::Answer { .. } => PayloadKind::Answer,
+        Payload::Batch { .. } => PayloadKind::Batch,
+        Payload::Ended { .. } => PayloadKind::Ended,
     }
 }
 
