@@ -8,3 +8,4 @@ pub mod First
 pub mod Newest
 pub mod Shown
 pub mod Kept
+pub mod Delivered

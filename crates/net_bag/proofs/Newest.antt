@@ -8,6 +8,7 @@ use Rattle.ax_types.specs.declared.ids.End.{End}
 use Rattle.ax_types.specs.declared.packets.Packet.{Packet}
 use Rattle.ax_types.specs.declared.items.Item.{Item}
 use Rattle.spec_raft.specs.Positions as positions
+use Rattle.spec_raft.proofs.Placing.{length-change_place}
 use Rattle.spec_cluster.specs.Bag as bags
 use Rattle.net_bag.specs.Ways as way_lists
 use Rattle.net_bag.specs.Packets as kept_packets
@@ -78,3 +79,6 @@ send_more bag new after p e f few more =
 pub send_within : (bag new after : bags.Bag) (p : Packet) → new ≡ kept_packets.with_one bag p → after ≡ kept_packets.without_oldest new → length bag.kept ≤ 16384 → length after.kept ≤ 16384
 send_within bag new after p e f few =
     omega (arith, few, ap (λ (b : bags.Bag). length b.kept) e, length-append bag.kept (record { is_marked = false; packet = p } ∷ []), ap (λ (b : bags.Bag). length b.kept) f, length-drop 1 new.kept)
+
+pub mark_within : (bag after : bags.Bag) (number : ℕ) → after ≡ bags.with_mark bag number → length bag.kept ≤ 16384 → length after.kept ≤ 16384
+mark_within bag after number e h = omega (arith, h, ap (λ (b : bags.Bag). length b.kept) e, length-change_place marked bag.kept (number - bags.gone bag))

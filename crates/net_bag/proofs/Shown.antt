@@ -1,12 +1,15 @@
 -- The packets that are shown, and the nodes that are up.
-use Rattle.std.proofs.Common.{◌≡◌, ℕ, zero, suc, ◌+◌, ◌-◌, ◌<◌, ◌≤◌, Bool, true, false, not, ◌||◌, ◌&&◌, nat_eq, cond, Option, Some, None, List, [], ◌∷◌, ◌++◌, length, drop, take, map, refl, sym, ap, ◌∙◌, arith, length-append, append-nil, append_assoc, min, get_or}
+use Rattle.std.proofs.Common.{◌≡◌, ℕ, zero, suc, ◌+◌, ◌-◌, ◌<◌, ◌≤◌, Bool, true, false, not, ◌||◌, ◌&&◌, nat_eq, cond, Option, Some, None, List, [], ◌∷◌, ◌++◌, length, drop, take, map, refl, sym, ap, ◌∙◌, arith, length-append, append-nil, append_assoc, min, get_or, drop-cons}
 use Rattle.std.specs.Prelude.{slice_get}
 use Rattle.std.specs.List.{list_any}
 use Rattle.std.proofs.lemmas.Bool.Decides.{nat_tests}
 use Rattle.ax_types.specs.Places as lists
 use Rattle.ax_types.specs.declared.items.Item.{Item}
 use Rattle.spec_raft.specs.Majority as majorities
+use Rattle.std.proofs.lemmas.List.{take_min}
 use Rattle.spec_cluster.specs.Bag as bags
+use Rattle.net_bag.specs.Ways as way_lists
+use Rattle.net_bag.specs.Packets as kept_packets
 use Rattle.net_bag.specs.Reasons as reasons
 
 apart : (x y : ℕ) → x < y → nat_eq x y ≡ false
@@ -79,3 +82,34 @@ up_past flags k h past = up_at flags k h ∙ none flags (k - 1) past
     none [] i le = refl
     none (b ∷ fs) zero le = absurd (omega (arith, le))
     none (b ∷ fs) (suc i) le = none fs i (omega (arith, le))
+
+show_step : (most n m : ℕ) (items : List Item) (s : bags.KeptPacket) (rest : List bags.KeptPacket) (whole : List Item) (b : Bool) → s.is_marked ≡ b → length items < most → m ≡ suc n
+    → items ++ map bags.pending_item (take (most - length items) (bags.unmarked_from n (s ∷ rest))) ≡ whole
+    → cond b items (items ++ bags.pending_item (n, s.packet) ∷ []) ++ map bags.pending_item (take (most - length (cond b items (items ++ bags.pending_item (n, s.packet) ∷ []))) (bags.unmarked_from m rest)) ≡ whole
+show_step most n m items s rest whole true e lt next h = show_skip most n m items s rest whole e next h
+show_step most n m items s rest whole false e lt next h = show_more most n m items s rest whole lt e next h
+
+-- the next packet is shown
+pub show_next : (most gone i number : ℕ) (kept : List bags.KeptPacket) (s : bags.KeptPacket) (items after whole : List Item) → s ≡ get_or kept i s → i < length kept → length items < most → number ≡ gone + i + 1 → after ≡ kept_packets.with_shown items number s
+    → items ++ map bags.pending_item (take (most - length items) (bags.unmarked_from (suc (gone + i)) (drop i kept))) ≡ whole
+    → after ++ map bags.pending_item (take (most - length after) (bags.unmarked_from (suc (gone + (i + 1))) (drop (i + 1) kept))) ≡ whole
+show_next most gone i number kept s items after whole e within lt f g h =
+    let one : number ≡ suc (gone + i) = omega (arith, f) in
+    let next : suc (gone + (i + 1)) ≡ suc (suc (gone + i)) = omega arith in
+    let two : i + 1 ≡ suc i = omega arith in
+    let split : drop i kept ≡ s ∷ drop (i + 1) kept = drop-cons kept i s within ∙ ap (λ (x : bags.KeptPacket). x ∷ drop (suc i) kept) (sym e) ∙ ap (λ k. s ∷ drop k kept) (sym two) in
+    let now : items ++ map bags.pending_item (take (most - length items) (bags.unmarked_from (suc (gone + i)) (s ∷ drop (i + 1) kept))) ≡ whole = ap (λ (ks : List bags.KeptPacket). items ++ map bags.pending_item (take (most - length items) (bags.unmarked_from (suc (gone + i)) ks))) (sym split) ∙ h in
+    let shown : after ≡ cond s.is_marked items (items ++ bags.pending_item (suc (gone + i), s.packet) ∷ []) = g ∙ ap (λ k. cond s.is_marked items (items ++ bags.pending_item (k, s.packet) ∷ [])) one in
+    ap (λ (xs : List Item). xs ++ map bags.pending_item (take (most - length xs) (bags.unmarked_from (suc (gone + (i + 1))) (drop (i + 1) kept)))) shown
+    ∙ show_step most (suc (gone + i)) (suc (gone + (i + 1))) items s (drop (i + 1) kept) whole s.is_marked refl lt next now
+
+-- the first of those that wait
+pub shown_first : (sent unmarked m g : ℕ) (kept : List bags.KeptPacket) (ways : List way_lists.Way) (bag : bags.Bag) → record { sent = sent; kept = kept; cuts = [] } ≡ bag → m ≡ min 64 unmarked → g ≡ bags.gone bag
+    → kept_packets.ArePackets sent (sent - length kept) kept unmarked ways → map bags.pending_item (take m (bags.unmarked_from (suc g) kept)) ≡ bags.pending_items bag
+shown_first sent unmarked m g kept ways bag e f same h =
+    let gone : g ≡ sent - length kept = same ∙ ap bags.gone (sym e) in
+    let most : m ≡ min 64 (length (bags.unmarked_from (suc (sent - length kept)) kept)) = f ∙ ap (λ n. min 64 n) h.counted in
+    ap (λ k. map bags.pending_item (take m (bags.unmarked_from (suc k) kept))) gone
+    ∙ ap (λ n. map bags.pending_item (take n (bags.unmarked_from (suc (sent - length kept)) kept))) most
+    ∙ ap (map bags.pending_item) (take_min 64 (bags.unmarked_from (suc (sent - length kept)) kept))
+    ∙ ap bags.pending_items e

@@ -2,6 +2,7 @@
 use Rattle.std.specs.Prelude.{◌≡◌, ℕ, suc, ◌-◌, ◌≤◌, Bool, true, false, Option, Some, None, List, [], ◌∷◌, ◌++◌, length, drop, filter, slice_get, if◌then◌else◌}
 use Rattle.std.specs.List.{list_any}
 use Rattle.ax_types.specs.declared.packets.Packet.{Packet}
+use Rattle.ax_types.specs.declared.items.Item.{Item}
 use Rattle.spec_cluster.specs.Bag as bags
 use Rattle.net_bag.specs.Ways as way_lists
 
@@ -35,3 +36,7 @@ with_one bag p = record bag { sent = suc bag.sent; kept = bag.kept ++ record { i
 -- the oldest is no longer kept
 abbrev pub without_oldest : bags.Bag → bags.Bag
 without_oldest bag = record bag { kept = drop 1 bag.kept }
+
+-- a packet is shown as an item, unless it is marked
+abbrev pub with_shown : List Item → ℕ → bags.KeptPacket → List Item
+with_shown items number s = if s.is_marked then items else items ++ bags.pending_item (number, s.packet) ∷ []

@@ -159,7 +159,8 @@ impl Packets {
     pub(crate) fn first_items(&self) -> Result<List<Item>, NoMemory>
         ensures { IfOk result (λ items. items ≡ bags.pending_items self.now) }
     {
-        first_items(&self.kept, self.gone(), MAX_SHOWN.min(self.unmarked))
+        let items = first_items(&self.kept, self.gone(), MAX_SHOWN.min(self.unmarked))?;
+        Ok(items)
     }
 
     /// The ways on which packets were sent. The first number on each is that of the first packet on it that waits.
@@ -194,11 +195,20 @@ fn first_items(kept: &VecDeque<Slot>, gone: u64, most: usize) -> Result<List<Ite
             return Ok(items);
         }
         let slot = &kept[i];
-        if !slot.is_marked {
-            items.push(pending_item(gone + i as u64 + 1, &slot.packet))?;
-        }
+        show(&mut items, gone + i as u64 + 1, slot)?;
     }
     Ok(items)
+}
+
+/// Shows a packet as an item, unless it is marked.
+fn show(items: &mut List<Item>, number: u64, slot: &Slot) -> Result<(), NoMemory>
+    ensures { OnOk result (items.new ≡ kept_packets.with_shown items.old number slot.now) }
+{
+    if slot.is_marked {
+        return Ok(());
+    }
+    items.push(pending_item(number, &slot.packet))?;
+    Ok(())
 }
 
 /// The item of a packet that waits.
