@@ -34,14 +34,14 @@ told_cut links flags a b ha hb within told c d hc hd =
     let l : bags.Link = record { one = a; other = b } in
     let pushed : list_any (bags.is_between c d) (links ++ l ∷ []) ≡ list_any (bags.is_between c d) links || bags.is_between c d l = any-push (bags.is_between c d) links l in
     elim (cases_eq (ends.link_number c d) (ends.link_number a b)) [
-      inl e ↦
-        ap (slice_get (set flags (ends.link_number a b) true)) e
-        ∙ get-set_same flags (ends.link_number a b) true within
-        ∙ ap Some (sym (pushed ∙ ap (λ x. list_any (bags.is_between c d) links || x) (between_same c d a b l hc hd ha hb e ∙ between-self a b) ∙ or_true (list_any (bags.is_between c d) links)))
+      | inl e ↦
+          ap (slice_get (set flags (ends.link_number a b) true)) e
+          ∙ get-set_same flags (ends.link_number a b) true within
+          ∙ ap Some (sym (pushed ∙ ap (λ x. list_any (bags.is_between c d) links || x) (between_same c d a b l hc hd ha hb e ∙ between-self a b) ∙ or_true (list_any (bags.is_between c d) links)))
       | inr ne ↦
-        get-set_other flags (ends.link_number a b) (ends.link_number c d) true ne
-        ∙ told c d hc hd
-        ∙ ap Some (sym (pushed ∙ ap (λ x. list_any (bags.is_between c d) links || x) (other_link a b c d ne) ∙ or_false (list_any (bags.is_between c d) links)))
+          get-set_other flags (ends.link_number a b) (ends.link_number c d) true ne
+          ∙ told c d hc hd
+          ∙ ap Some (sym (pushed ∙ ap (λ x. list_any (bags.is_between c d) links || x) (other_link a b c d ne) ∙ or_false (list_any (bags.is_between c d) links)))
     ]
 
 -- a link is joined
@@ -49,14 +49,14 @@ pub told_join : (links : List bags.Link) (flags : List Bool) (a b : End) → end
     → cut_links.AreTold links flags → cut_links.AreTold (filter (λ l. not (bags.is_between a b l)) links) (set flags (ends.link_number a b) false)
 told_join links flags a b ha hb within told c d hc hd =
     elim (cases_eq (ends.link_number c d) (ends.link_number a b)) [
-      inl e ↦
-        ap (slice_get (set flags (ends.link_number a b) false)) e
-        ∙ get-set_same flags (ends.link_number a b) false within
-        ∙ ap Some (sym (any-without (bags.is_between c d) (bags.is_between a b) (λ l. between_same c d a b l hc hd ha hb e) links))
+      | inl e ↦
+          ap (slice_get (set flags (ends.link_number a b) false)) e
+          ∙ get-set_same flags (ends.link_number a b) false within
+          ∙ ap Some (sym (any-without (bags.is_between c d) (bags.is_between a b) (λ l. between_same c d a b l hc hd ha hb e) links))
       | inr ne ↦
-        get-set_other flags (ends.link_number a b) (ends.link_number c d) false ne
-        ∙ told c d hc hd
-        ∙ ap Some (sym (any-beside (bags.is_between c d) (bags.is_between a b) (λ l. apart a b c d l ne) links))
+          get-set_other flags (ends.link_number a b) (ends.link_number c d) false ne
+          ∙ told c d hc hd
+          ∙ ap Some (sym (any-beside (bags.is_between c d) (bags.is_between a b) (λ l. apart a b c d l ne) links))
     ]
 
 -- no link is cut twice
@@ -116,8 +116,8 @@ links_join n m k links after flags a b e ha hb f le long h =
       small = omega (arith, le, h.small);
       told = rw f (rw e (told_join (take n links) flags a b ha hb (omega (arith, link_small a b ha hb, h.flag_count)) h.told));
       each_once =
-        let once : length (filter (λ l. not (bags.is_between a b l)) (take n links)) ≤ true_count (set flags (ends.link_number a b) false) = once_join (take n links) flags a b (list_any (bags.is_between a b) (take n links)) (h.told a b ha hb) refl (omega (arith, counted, h.each_once)) in
-        rw e (omega (arith, once, kept, ap length f));
+          let once : length (filter (λ l. not (bags.is_between a b l)) (take n links)) ≤ true_count (set flags (ends.link_number a b) false) = once_join (take n links) flags a b (list_any (bags.is_between a b) (take n links)) (h.told a b ha hb) refl (omega (arith, counted, h.each_once)) in
+          rw e (omega (arith, once, kept, ap length f));
     }
 
 -- what is cut then

@@ -44,10 +44,10 @@ pub taken_packet : (packets after : bags.Bag) (links : List bags.Link) (bag : ba
 taken_packet packets after links bag number s e f h =
     let P : bags.Bag → Type 0 = λ b. option_map (λ (t : bags.KeptPacket). t.packet) (bags.kept_at b number) ≡ Some s.packet in
     let there : option_map marked (lists.at_place packets.kept (number - bags.gone packets)) ≡ Some s =
-        sym (at_place-changed marked packets.kept (number - bags.gone packets))
-        ∙ ap (λ q. lists.at_place (positions.change_place marked packets.kept (number - bags.gone packets)) (number - q)) (sym (gone_marked packets after number f))
-        ∙ sym (ap (λ (b : bags.Bag). lists.at_place b.kept (number - bags.gone after)) f)
-        ∙ h in
+    sym (at_place-changed marked packets.kept (number - bags.gone packets))
+    ∙ ap (λ q. lists.at_place (positions.change_place marked packets.kept (number - bags.gone packets)) (number - q)) (sym (gone_marked packets after number f))
+    ∙ sym (ap (λ (b : bags.Bag). lists.at_place b.kept (number - bags.gone after)) f)
+    ∙ h in
     subst P e (packet_of (lists.at_place packets.kept (number - bags.gone packets)) s there)
 
 first_none : (r o : Option SkipReason) → bags.first_reason r o ≡ None → r ≡ None
@@ -59,6 +59,7 @@ refusal_none number sent gone e = step (nat_eq number 0 || nat_lt sent number) (
   where
     above : (x y : ℕ) → false ≡ nat_le x y → y < x
     above x y f = grind (arith, nat_tests)
+
     step : (a b : Bool) → b ≡ nat_le number gone → cond a (Some reason.NeverSent) (cond b (Some reason.Gone) None) ≡ None → gone < number
     step true b f h = absurd (let c : Some reason.NeverSent ≡ None = h in cc)
     step false true f h = absurd (let c : Some reason.Gone ≡ None = h in cc)

@@ -43,6 +43,7 @@ first_from t n (s ∷ slots) = step (not s.is_marked && t s.packet) (below n (fi
     below : (m : ℕ) (o : Option ℕ) → IsFrom (suc m) o → IsFrom m o
     below m None h = h
     below m (Some k) h = omega (arith, h)
+
     step : (b : Bool) → IsFrom n (first_such t (suc n) slots) → IsFrom n (cond b (Some n) (first_such t (suc n) slots))
     step true h = omega arith
     step false h = h
@@ -142,12 +143,15 @@ up_somewhere cuts bag up p e ways h = same ways ∙ ap (λ b. free && b) h ∙ l
   where
     free : Bool
     free = bags.is_unhindered (bags.hindrance bag (reasons.up_nodes up) p)
+
     last : (b : Bool) → b && true ≡ b
     last true = refl
     last false = refl
+
     spread : (a b c : Bool) → (a && b) || (a && c) ≡ a && (b || c)
     spread true b c = refl
     spread false b c = refl
+
     one : (w : way_lists.Way) (c : Bool) → c ≡ way_lists.goes p w → bags.is_unhindered (reasons.way_hindrance cuts up w.«from» w.to) && c ≡ free && c
     one w true f = ap (λ o. bags.is_unhindered o && true) (sym (hindered cuts bag up p w e (sym f)))
     one w false f = none (bags.is_unhindered (reasons.way_hindrance cuts up w.«from» w.to)) free
@@ -157,6 +161,7 @@ up_somewhere cuts bag up p e ways h = same ways ∙ ap (λ b. free && b) h ∙ l
         none true false = refl
         none false true = refl
         none false false = refl
+
     same : (ws : List way_lists.Way) → list_any (goes_up cuts up p) ws ≡ free && list_any (way_lists.goes p) ws
     same [] = none free
       where

@@ -51,7 +51,7 @@ link_split x y z w hx hy hz hw false false e = let s : (y ≡ w) × (x ≡ z) = 
 pub link_same : (a b c d : End) → ends.IsEnd a → ends.IsEnd b → ends.IsEnd c → ends.IsEnd d → ends.link_number a b ≡ ends.link_number c d → ((a ≡ c) × (b ≡ d)) ⊎ ((a ≡ d) × (b ≡ c))
 link_same a b c d ha hb hc hd e =
     elim (link_split (ends.end_number a) (ends.end_number b) (ends.end_number c) (ends.end_number d) (end_small a ha) (end_small b hb) (end_small c hc) (end_small d hd) (nat_lt (ends.end_number a) (ends.end_number b)) (nat_lt (ends.end_number c) (ends.end_number d)) e) [
-      inl s ↦ inl (end_same a c ha hc s.0, end_same b d hb hd s.1)
+      | inl s ↦ inl (end_same a c ha hc s.0, end_same b d hb hd s.1)
       | inr s ↦ inr (end_same a d ha hd s.0, end_same b c hb hc s.1)
     ]
 
@@ -81,7 +81,7 @@ either false y e = inr e
 
 pub between-true : (a b : End) (l : bags.Link) → bags.is_between a b l ≡ true → ((l.one ≡ a) × (l.other ≡ b)) ⊎ ((l.one ≡ b) × (l.other ≡ a))
 between-true a b l e = elim (either (bags.same_end l.one a && bags.same_end l.other b) (bags.same_end l.one b && bags.same_end l.other a) e) [
-  inl h ↦ let p = both (bags.same_end l.one a) (bags.same_end l.other b) h in inl (same_end-true l.one a p.0, same_end-true l.other b p.1)
+  | inl h ↦ let p = both (bags.same_end l.one a) (bags.same_end l.other b) h in inl (same_end-true l.one a p.0, same_end-true l.other b p.1)
   | inr h ↦ let p = both (bags.same_end l.one b) (bags.same_end l.other a) h in inr (same_end-true l.one b p.0, same_end-true l.other a p.1)
 ]
 
@@ -91,13 +91,13 @@ between-self a b = rw (same_end-refl a, same_end-refl b)
 -- a link between two ends has their number
 pub between_number : (a b : End) (l : bags.Link) → bags.is_between a b l ≡ true → ends.link_number l.one l.other ≡ ends.link_number a b
 between_number a b l e = elim (between-true a b l e) [
-  inl h ↦ ap (λ (x : End). ends.link_number x l.other) h.0 ∙ ap (λ (y : End). ends.link_number a y) h.1
+  | inl h ↦ ap (λ (x : End). ends.link_number x l.other) h.0 ∙ ap (λ (y : End). ends.link_number a y) h.1
   | inr h ↦ ap (λ (x : End). ends.link_number x l.other) h.0 ∙ ap (λ (y : End). ends.link_number b y) h.1 ∙ link_number-swap b a
 ]
 
 -- where two pairs of ends have one number, a link is between those where it is between these
 pub between_same : (a b c d : End) (l : bags.Link) → ends.IsEnd a → ends.IsEnd b → ends.IsEnd c → ends.IsEnd d → ends.link_number a b ≡ ends.link_number c d → bags.is_between a b l ≡ bags.is_between c d l
 between_same a b c d l ha hb hc hd e = elim (link_same a b c d ha hb hc hd e) [
-  inl h ↦ ap (λ (x : End). bags.is_between x b l) h.0 ∙ ap (λ (y : End). bags.is_between c y l) h.1
+  | inl h ↦ ap (λ (x : End). bags.is_between x b l) h.0 ∙ ap (λ (y : End). bags.is_between c y l) h.1
   | inr h ↦ ap (λ (x : End). bags.is_between x b l) h.0 ∙ ap (λ (y : End). bags.is_between d y l) h.1 ∙ between-swap d c l
 ]

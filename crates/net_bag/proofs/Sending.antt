@@ -56,17 +56,17 @@ indexed_on sent gone slots p w within rest on h =
     let test : ℕ → Bool = way_lists.open_at gone (slots ++ s ∷ []) in
     let number : suc gone + length slots ≡ suc sent = omega (arith, within, rest) in
     let numbers : way_lists.numbers_on w.«from» w.to (suc gone) (slots ++ s ∷ []) ≡ way_lists.numbers_on w.«from» w.to (suc gone) slots ++ suc sent ∷ [] =
-        numbers_push w.«from» w.to (suc gone) slots s
-        ∙ ap (λ c. way_lists.numbers_on w.«from» w.to (suc gone) slots ++ cond c ((suc gone + length slots) ∷ []) []) on
-        ∙ ap (λ k. way_lists.numbers_on w.«from» w.to (suc gone) slots ++ k ∷ []) number in
+    numbers_push w.«from» w.to (suc gone) slots s
+    ∙ ap (λ c. way_lists.numbers_on w.«from» w.to (suc gone) slots ++ cond c ((suc gone + length slots) ∷ []) []) on
+    ∙ ap (λ k. way_lists.numbers_on w.«from» w.to (suc gone) slots ++ k ∷ []) number in
     let last : test (suc sent) ≡ true =
-        ap (λ q. way_lists.is_open (lists.at_place (slots ++ s ∷ []) q)) (let e : suc sent - gone ≡ suc (length slots) = omega (arith, within, rest) in e)
-        ∙ ap way_lists.is_open (get-last slots s) in
+    ap (λ q. way_lists.is_open (lists.at_place (slots ++ s ∷ []) q)) (let e : suc sent - gone ≡ suc (length slots) = omega (arith, within, rest) in e)
+    ∙ ap way_lists.is_open (get-last slots s) in
     let waits : filter test (w.waiting ++ suc sent ∷ []) ≡ way_lists.numbers_on w.«from» w.to (suc gone) (slots ++ s ∷ []) =
-        filter-append test w.waiting (suc sent ∷ [])
-        ∙ ap (λ c. filter test w.waiting ++ cond c (suc sent ∷ []) []) last
-        ∙ ap (λ (ns : List ℕ). ns ++ suc sent ∷ []) (filter_given sent test (way_lists.open_at gone slots) (λ n le. ap way_lists.is_open (place_before slots s (n - gone) (omega (arith, le, within, rest)))) w.waiting h.given ∙ h.waits)
-        ∙ sym numbers in
+    filter-append test w.waiting (suc sent ∷ [])
+    ∙ ap (λ c. filter test w.waiting ++ cond c (suc sent ∷ []) []) last
+    ∙ ap (λ (ns : List ℕ). ns ++ suc sent ∷ []) (filter_given sent test (way_lists.open_at gone slots) (λ n le. ap way_lists.is_open (place_before slots s (n - gone) (omega (arith, le, within, rest)))) w.waiting h.given ∙ h.waits)
+    ∙ sym numbers in
     record {
       given = given_push (suc sent) (suc sent) w.waiting (omega arith) (given_more sent w.waiting h.given);
       waits = waits;
@@ -79,9 +79,9 @@ indexed_off sent gone slots p w within rest off h =
     let s : bags.KeptPacket = record { is_marked = false; packet = p } in
     let test : ℕ → Bool = way_lists.open_at gone (slots ++ s ∷ []) in
     let numbers : way_lists.numbers_on w.«from» w.to (suc gone) (slots ++ s ∷ []) ≡ way_lists.numbers_on w.«from» w.to (suc gone) slots =
-        numbers_push w.«from» w.to (suc gone) slots s
-        ∙ ap (λ c. way_lists.numbers_on w.«from» w.to (suc gone) slots ++ cond c ((suc gone + length slots) ∷ []) []) off
-        ∙ append-nil (way_lists.numbers_on w.«from» w.to (suc gone) slots) in
+    numbers_push w.«from» w.to (suc gone) slots s
+    ∙ ap (λ c. way_lists.numbers_on w.«from» w.to (suc gone) slots ++ cond c ((suc gone + length slots) ∷ []) []) off
+    ∙ append-nil (way_lists.numbers_on w.«from» w.to (suc gone) slots) in
     record {
       given = given_more sent w.waiting h.given;
       waits = filter_given sent test (way_lists.open_at gone slots) (λ n le. ap way_lists.is_open (place_before slots s (n - gone) (omega (arith, le, within, rest)))) w.waiting h.given ∙ h.waits ∙ sym numbers;
@@ -112,12 +112,12 @@ packets_more sent gone unmarked j slots p ways place h =
       rest = omega (arith, long, h.rest);
       counted = ap suc h.counted ∙ sym (count_push (suc gone) slots p);
       indexed = λ k v g. elim (changed_at (way_lists.with_number (suc sent)) ways j k v g) [
-        inl t ↦
-          let w : way_lists.Way = t.1.0 in
-          let same : w ≡ place.there.0 = same_Some w place.there.0 (sym t.1.1 ∙ ap (slice_get ways) t.0 ∙ place.there.1) in
-          let on : way_lists.goes p w ≡ true = goes_there p w (ap (λ (u : way_lists.Way). u.«from») same ∙ place.there.2) (ap (λ (u : way_lists.Way). u.to) same ∙ place.there.3) in
-          let P : way_lists.Way → Type 0 = kept_packets.IsIndexed (suc sent) gone (slots ++ s ∷ []) in
-          subst P (sym t.1.2) (indexed_on sent gone slots p w h.within h.rest on (h.indexed k w t.1.1))
+        | inl t ↦
+            let w : way_lists.Way = t.1.0 in
+            let same : w ≡ place.there.0 = same_Some w place.there.0 (sym t.1.1 ∙ ap (slice_get ways) t.0 ∙ place.there.1) in
+            let on : way_lists.goes p w ≡ true = goes_there p w (ap (λ (u : way_lists.Way). u.«from») same ∙ place.there.2) (ap (λ (u : way_lists.Way). u.to) same ∙ place.there.3) in
+            let P : way_lists.Way → Type 0 = kept_packets.IsIndexed (suc sent) gone (slots ++ s ∷ []) in
+            subst P (sym t.1.2) (indexed_on sent gone slots p w h.within h.rest on (h.indexed k w t.1.1))
         | inr t ↦ indexed_off sent gone slots p v h.within h.rest (not_true (way_lists.goes p v) (λ on. let same = goes_same p.«from» p.to p v refl refl on in t.0 (place.only k v t.1 same.0 same.1))) (h.indexed k v t.1)
       ];
       served = served_changed (way_lists.with_number (suc sent)) (λ q w. refl) ways (suc j) (slots ++ s ∷ []) (served_push ways slots s h.served (any-at (way_lists.goes p) ways j place.there.0 place.there.1 (goes_there p place.there.0 place.there.2 place.there.3)));
@@ -172,6 +172,7 @@ packets_way sent gone unmarked slots a b ways h = step (list_any (way_lists.is_f
   where
     new : way_lists.Way
     new = record { «from» = a; to = b; waiting = [] }
+
     step : (c : Bool) → list_any (way_lists.is_from a b) ways ≡ c → kept_packets.ArePackets sent gone slots unmarked (cond c ways (ways ++ new ∷ []))
     step true e = h
     step false e = record {
@@ -179,7 +180,7 @@ packets_way sent gone unmarked slots a b ways h = step (list_any (way_lists.is_f
       rest = h.rest;
       counted = h.counted;
       indexed = λ k v g. elim (get-push ways new v k g) [
-        inl old ↦ h.indexed k v old
+        | inl old ↦ h.indexed k v old
         | inr last ↦ let P : way_lists.Way → Type 0 = kept_packets.IsIndexed sent gone slots in subst P last.1 (record {
           given = tt;
           waits = sym (unserved a b (suc gone) ways slots e h.served);
@@ -205,6 +206,7 @@ packets_fewer sent gone unmarked s slots ways m h = record {
   where
     numbers : (v : way_lists.Way) → way_lists.numbers_on v.«from» v.to (suc gone) (s ∷ slots) ≡ way_lists.numbers_on v.«from» v.to (suc (suc gone)) slots
     numbers v = ap (λ b. cond (not b && way_lists.is_on v.«from» v.to s.packet) (suc gone ∷ way_lists.numbers_on v.«from» v.to (suc (suc gone)) slots) (way_lists.numbers_on v.«from» v.to (suc (suc gone)) slots)) m
+
     shifted : (n q : ℕ) → q ≡ n - gone → way_lists.is_open (lists.at_place slots (n - suc gone)) ≡ way_lists.is_open (lists.at_place (s ∷ slots) q)
     shifted n zero e = ap (λ k. way_lists.is_open (lists.at_place slots k)) (let d : n - suc gone ≡ 0 = omega (arith, e) in d)
     shifted n (suc zero) e = ap (λ k. way_lists.is_open (lists.at_place slots k)) (let d : n - suc gone ≡ 0 = omega (arith, e) in d) ∙ sym (ap not m)

@@ -58,7 +58,7 @@ show_more most n m items s rest whole lt out next h =
     ∙ ap (λ k. items ++ x ∷ map bags.pending_item (take k (bags.unmarked_from m rest))) left
     ∙ ap (λ k. items ++ x ∷ map bags.pending_item (take (most - length items - 1) (bags.unmarked_from k rest))) next
     ∙ sym (ap (λ k. items ++ map bags.pending_item (take k (bags.unmarked_from n (s ∷ rest)))) more
-      ∙ ap (λ b. items ++ map bags.pending_item (take (suc (most - length items - 1)) (cond b (bags.unmarked_from (suc n) rest) ((n, s.packet) ∷ bags.unmarked_from (suc n) rest)))) out)
+    ∙ ap (λ b. items ++ map bags.pending_item (take (suc (most - length items - 1)) (cond b (bags.unmarked_from (suc n) rest) ((n, s.packet) ∷ bags.unmarked_from (suc n) rest)))) out)
     ∙ h
 
 pub show_skip : (most n m : ℕ) (items : List Item) (s : bags.KeptPacket) (rest : List bags.KeptPacket) (whole : List Item) → s.is_marked ≡ true → m ≡ suc n

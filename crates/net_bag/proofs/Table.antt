@@ -92,9 +92,9 @@ pub place_nowhere : (ways : List way_lists.Way) (places : List ℕ) (a b : End) 
 place_nowhere ways places a b k h ha hb e none =
     let within : k < length places = omega (arith, e, way_small a b ha hb, h.place_count) in
     any-none (way_lists.is_from a b) ways (λ i w f t.
-      let p : (w.«from» ≡ a) × (w.to ≡ b) = is_from-true a b w t in
-      let q : suc i ≡ 0 = same_Some _ _ (sym (placed_at ways places a b k i w h e f p.0 p.1) ∙ slice_get-get_or places k 0 within ∙ ap Some none) in
-      omega (arith, q))
+    let p : (w.«from» ≡ a) × (w.to ≡ b) = is_from-true a b w t in
+    let q : suc i ≡ 0 = same_Some _ _ (sym (placed_at ways places a b k i w h e f p.0 p.1) ∙ slice_get-get_or places k 0 within ∙ ap Some none) in
+    omega (arith, q))
 
 -- a way that has a place is there
 pub any-place : (ways : List way_lists.Way) (a b : End) (i : ℕ) → way_lists.IsPlaceOf ways a b i → list_any (way_lists.is_from a b) ways ≡ true
@@ -127,24 +127,24 @@ ways_more ways places a b k h ha hb e none =
     record {
       place_count = length-set places k (length ways + 1) ∙ h.place_count;
       real = λ i w g. elim (get-push ways new w i g) [
-        inl old ↦ h.real i w old
+        | inl old ↦ h.real i w old
         | inr last ↦ let P : way_lists.Way → Type 0 = way_lists.IsWay in subst P last.1 (ha, hb)
       ];
       placed = λ i m g. elim (get-push (map way_lists.number_of ways) (way_lists.number_of new) m i (sym (ap (λ (ns : List ℕ). slice_get ns i) mapped) ∙ g)) [
-        inl old ↦ elim (cases_eq m k) [
-          inl q ↦ absurd (let c : 0 ≡ suc i = same_Some 0 (suc i) (sym free ∙ sym (ap (slice_get places) q) ∙ h.placed i m old) in omega (arith, c))
+        | inl old ↦ elim (cases_eq m k) [
+          | inl q ↦ absurd (let c : 0 ≡ suc i = same_Some 0 (suc i) (sym free ∙ sym (ap (slice_get places) q) ∙ h.placed i m old) in omega (arith, c))
           | inr ne ↦ get-set_other places k m (length ways + 1) ne ∙ h.placed i m old
         ]
         | inr last ↦
-          let q : m ≡ k = sym last.1 ∙ sym e in
-          let r : length ways + 1 ≡ suc i = omega (arith, last.0, length-map ways way_lists.number_of) in
-          ap (slice_get (set places k (length ways + 1))) q ∙ get-set_same places k (length ways + 1) within ∙ ap Some r
+            let q : m ≡ k = sym last.1 ∙ sym e in
+            let r : length ways + 1 ≡ suc i = omega (arith, last.0, length-map ways way_lists.number_of) in
+            ap (slice_get (set places k (length ways + 1))) q ∙ get-set_same places k (length ways + 1) within ∙ ap Some r
       ];
       found = λ i m g. elim (cases_eq m k) [
-        inl q ↦
-          let r : length ways + 1 ≡ suc i = same_Some _ _ (sym (get-set_same places k (length ways + 1) within) ∙ sym (ap (slice_get (set places k (length ways + 1))) q) ∙ g) in
-          let s : i ≡ length (map way_lists.number_of ways) = omega (arith, r, length-map ways way_lists.number_of) in
-          ap (λ (ns : List ℕ). slice_get ns i) mapped ∙ ap (slice_get (map way_lists.number_of ways ++ way_lists.number_of new ∷ [])) s ∙ get-last (map way_lists.number_of ways) (way_lists.number_of new) ∙ ap Some (sym e ∙ sym q)
+        | inl q ↦
+            let r : length ways + 1 ≡ suc i = same_Some _ _ (sym (get-set_same places k (length ways + 1) within) ∙ sym (ap (slice_get (set places k (length ways + 1))) q) ∙ g) in
+            let s : i ≡ length (map way_lists.number_of ways) = omega (arith, r, length-map ways way_lists.number_of) in
+            ap (λ (ns : List ℕ). slice_get ns i) mapped ∙ ap (slice_get (map way_lists.number_of ways ++ way_lists.number_of new ∷ [])) s ∙ get-last (map way_lists.number_of ways) (way_lists.number_of new) ∙ ap Some (sym e ∙ sym q)
         | inr ne ↦ ap (λ (ns : List ℕ). slice_get ns i) mapped ∙ get-before (map way_lists.number_of ways) (way_lists.number_of new ∷ []) i m (h.found i m (sym (get-set_other places k m (length ways + 1) ne) ∙ g))
       ];
     }
@@ -156,7 +156,7 @@ place_new ways a b none =
     record {
       there = (new, get-last ways new, refl, refl);
       only = λ j w f g1 g2. elim (get-push ways new w j f) [
-        inl old ↦ absurd (let c : true ≡ false = sym (any-at (way_lists.is_from a b) ways j w old (is_from-same a b w g1 g2)) ∙ none in cc)
+        | inl old ↦ absurd (let c : true ≡ false = sym (any-at (way_lists.is_from a b) ways j w old (is_from-same a b w g1 g2)) ∙ none in cc)
         | inr last ↦ last.0
       ];
     }
@@ -173,12 +173,12 @@ ways_set ways places i w v e f g h =
     record {
       place_count = h.place_count;
       real = λ j u d. elim (cases_eq j i) [
-        inl q ↦
-          let same : v ≡ u = same_Some v u (sym (get-set_same ways i v (slice_get_within ways i w e)) ∙ sym (ap (slice_get (set ways i v)) q) ∙ d) in
-          let P : way_lists.Way → Type 0 = way_lists.IsWay in
-          let Q : End → Type 0 = ends.IsEnd in
-          let old : way_lists.IsWay w = h.real i w e in
-          subst P same (subst Q (sym f) old.0, subst Q (sym g) old.1)
+        | inl q ↦
+            let same : v ≡ u = same_Some v u (sym (get-set_same ways i v (slice_get_within ways i w e)) ∙ sym (ap (slice_get (set ways i v)) q) ∙ d) in
+            let P : way_lists.Way → Type 0 = way_lists.IsWay in
+            let Q : End → Type 0 = ends.IsEnd in
+            let old : way_lists.IsWay w = h.real i w e in
+            subst P same (subst Q (sym f) old.0, subst Q (sym g) old.1)
         | inr ne ↦ h.real j u (sym (get-set_other ways i j v ne) ∙ d)
       ];
       placed = λ j k d. h.placed j k (sym (ap (λ (ns : List ℕ). slice_get ns j) mapped) ∙ d);

@@ -68,6 +68,7 @@ numbers_above a b k n (s ∷ slots) h = step (not s.is_marked && way_lists.is_on
   where
     differ : (x y : ℕ) → y < x → not (nat_eq x y) ≡ true
     differ x y lt = grind (arith, nat_tests)
+
     step : (c d : Bool) → not (nat_eq n k) ≡ true → filter (λ m. not (nat_eq m k)) (way_lists.numbers_on a b (suc n) slots) ≡ way_lists.numbers_on a b (suc n) slots
         → filter (λ m. not (nat_eq m k)) (cond c (n ∷ way_lists.numbers_on a b (suc n) slots) (way_lists.numbers_on a b (suc n) slots)) ≡ cond c (n ∷ way_lists.numbers_on a b (suc n) slots) (way_lists.numbers_on a b (suc n) slots)
     step true d e f = ap (λ x. cond x (n ∷ filter (λ m. not (nat_eq m k)) (way_lists.numbers_on a b (suc n) slots)) (filter (λ m. not (nat_eq m k)) (way_lists.numbers_on a b (suc n) slots))) e ∙ ap (λ (ns : List ℕ). n ∷ ns) f
@@ -86,8 +87,10 @@ numbers_marked a b n zero k (s ∷ slots) e = step (not s.is_marked && way_lists
   where
     still : filter (λ m. not (nat_eq m k)) (way_lists.numbers_on a b (suc n) slots) ≡ way_lists.numbers_on a b (suc n) slots
     still = numbers_above a b k (suc n) slots (omega (arith, e))
+
     out : not (nat_eq n k) ≡ false
     out = alike n k (omega (arith, e))
+
     step : (c : Bool) → way_lists.numbers_on a b (suc n) slots ≡ filter (λ m. not (nat_eq m k)) (cond c (n ∷ way_lists.numbers_on a b (suc n) slots) (way_lists.numbers_on a b (suc n) slots))
     step true = sym (ap (λ x. cond x (n ∷ filter (λ m. not (nat_eq m k)) (way_lists.numbers_on a b (suc n) slots)) (filter (λ m. not (nat_eq m k)) (way_lists.numbers_on a b (suc n) slots))) out ∙ still)
     step false = sym still
@@ -95,6 +98,7 @@ numbers_marked a b n (suc i) k (s ∷ slots) e = step (not s.is_marked && way_li
   where
     stays : not (nat_eq n k) ≡ true
     stays = apart n k (omega (arith, e))
+
     step : (c : Bool) → way_lists.numbers_on a b (suc n) (positions.change_place marked slots (suc i)) ≡ filter (λ m. not (nat_eq m k)) (way_lists.numbers_on a b (suc n) slots)
         → cond c (n ∷ way_lists.numbers_on a b (suc n) (positions.change_place marked slots (suc i))) (way_lists.numbers_on a b (suc n) (positions.change_place marked slots (suc i)))
         ≡ filter (λ m. not (nat_eq m k)) (cond c (n ∷ way_lists.numbers_on a b (suc n) slots) (way_lists.numbers_on a b (suc n) slots))
@@ -215,7 +219,7 @@ changed_at f (w ∷ ways) zero zero v e = inl (refl, (w, refl, sym (same_Some (f
 changed_at f (w ∷ ways) zero (suc i) v e = inr (λ c. omega (arith, c), e)
 changed_at f (w ∷ ways) (suc j) zero v e = inr (λ c. omega (arith, c), e)
 changed_at f (w ∷ ways) (suc j) (suc i) v e = elim (changed_at f ways j i v e) [
-  inl h ↦ inl (ap suc h.0, h.1)
+  | inl h ↦ inl (ap suc h.0, h.1)
   | inr h ↦ inr ((λ c. h.0 (omega (arith, c))), h.1)
 ]
 
@@ -228,7 +232,7 @@ packets_marked sent gone i unmarked left j slots s ways e m less place h = recor
   rest = h.rest ∙ ap (λ n. sent - n) (sym (length-change_place marked slots (suc i)));
   counted = let c = count_marked (suc gone) i slots s e m in omega (arith, c, less, h.counted);
   indexed = λ k v g. elim (changed_at (way_lists.trimmed (way_lists.open_at gone (positions.change_place marked slots (suc i)))) ways j k v g) [
-    inl t ↦ let P : way_lists.Way → Type 0 = kept_packets.IsIndexed sent gone (positions.change_place marked slots (suc i)) in subst P (sym t.1.2) (indexed_trimmed sent gone i slots t.1.0 (h.indexed k t.1.0 t.1.1))
+    | inl t ↦ let P : way_lists.Way → Type 0 = kept_packets.IsIndexed sent gone (positions.change_place marked slots (suc i)) in subst P (sym t.1.2) (indexed_trimmed sent gone i slots t.1.0 (h.indexed k t.1.0 t.1.1))
     | inr t ↦ indexed_beside sent gone i slots s v e (not_true (way_lists.goes s.packet v) (λ on. let same = goes_same s.packet.«from» s.packet.to s.packet v refl refl on in t.0 (place.only k v t.1 same.0 same.1))) (h.indexed k v t.1)
   ];
   served = served_changed (way_lists.trimmed (way_lists.open_at gone (positions.change_place marked slots (suc i)))) (λ p w. refl) ways (suc j) (positions.change_place marked slots (suc i)) (served_marked ways slots (suc i) h.served);

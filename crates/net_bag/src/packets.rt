@@ -8,7 +8,6 @@ ghost use Rattle.net_bag.specs.Fronts as way_fronts;
 
 use crate::slots::Slot;
 use crate::ways::{Way, Ways};
-
 use ax_types::limits::MAX_SHOWN;
 use ax_types::{Item, List, NoMemory, Packet, Payload, PayloadKind, TakeRefused};
 use std::alloc::Global;
