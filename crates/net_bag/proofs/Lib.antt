@@ -1,0 +1,11 @@
+pub mod Numbers
+pub mod Flags
+pub mod Cuts
+pub mod Table
+pub mod Waiting
+pub mod Sending
+pub mod First
+pub mod Newest
+pub mod Shown
+pub mod Kept
+pub mod Delivered
