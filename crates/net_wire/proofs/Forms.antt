@@ -1,13 +1,30 @@
--- Letters of a form, counted, are such letters one by one.
-use Rattle.std.proofs.Common.{◌≡◌, ℕ, ◌≤◌, List, length}
+-- Letters of a form, counted, are such letters one by one; and eight bytes that are padded.
+use Rattle.std.proofs.Common.{◌≡◌, ◌≢◌, ℕ, ◌≤◌, ◌<◌, Bool, true, false, ◌&&◌, nat_le, nat_lt, nat_eq, List, [], ◌∷◌, ◌++◌, length, take, replicate, refl, get_or, arith, rules}
+use Rattle.std.specs.List.{list_all}
+use Rattle.std.proofs.lemmas.Grind.{common_steps}
 use Rattle.ax_types.specs.Letters as ax_types_letters
 use Rattle.spec_reading.specs.Reading as reading
 use Rattle.net_wire.specs.Given.{form_at}
 
+-- the letters at the front of bytes, padded
+pub eight_padded : (byte : ℕ) (bytes : List ℕ) → take 8 (bytes ++ replicate 8 byte)
+    ≡ get_or bytes 0 byte ∷ get_or bytes 1 byte ∷ get_or bytes 2 byte ∷ get_or bytes 3 byte ∷ get_or bytes 4 byte ∷ get_or bytes 5 byte ∷ get_or bytes 6 byte ∷ get_or bytes 7 byte ∷ []
+eight_padded byte [] = refl
+eight_padded byte (a ∷ []) = refl
+eight_padded byte (a ∷ b ∷ []) = refl
+eight_padded byte (a ∷ b ∷ c ∷ []) = refl
+eight_padded byte (a ∷ b ∷ c ∷ d ∷ []) = refl
+eight_padded byte (a ∷ b ∷ c ∷ d ∷ e ∷ []) = refl
+eight_padded byte (a ∷ b ∷ c ∷ d ∷ e ∷ f ∷ []) = refl
+eight_padded byte (a ∷ b ∷ c ∷ d ∷ e ∷ f ∷ g ∷ []) = refl
+eight_padded byte (a ∷ b ∷ c ∷ d ∷ e ∷ f ∷ g ∷ h ∷ bytes) = refl
+
 pub name_letters : (count : ℕ) (bytes : List ℕ) → 1 ≤ count → count ≤ 32
     → form_at ax_types_letters.is_name count bytes ≡ reading.letters_at ax_types_letters.is_name_byte count bytes
-name_letters count bytes least most = ?
+unfolding form_at reading.letters_at
+name_letters count bytes least most = grind (arith, common_steps)
 
 pub text_letters : (count : ℕ) (bytes : List ℕ) → 1 ≤ count → count ≤ 64
     → form_at ax_types_letters.is_text count bytes ≡ reading.letters_at ax_types_letters.is_text_byte count bytes
-text_letters count bytes least most = ?
+unfolding form_at reading.letters_at
+text_letters count bytes least most = grind (arith, common_steps)

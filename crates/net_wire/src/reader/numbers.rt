@@ -15,6 +15,7 @@ fn padded_byte(byte: u8, bytes: &[u8], i: usize) -> u8
 }
 
 /// The number of the first eight bytes, where those that lack are taken as `byte`.
+#[tactic(auto, using(crate::proofs::Forms::eight_padded))]
 fn padded_number(byte: u8, bytes: &[u8]) -> u64
     ensures { result ≡ reading.padded_number byte bytes.now }
 {
