@@ -1,6 +1,7 @@
 -- Reading values one after the other, as a loop does.
-use Rattle.std.proofs.Common.{◌≡◌, ℕ, suc, ◌-◌, ◌+◌, ◌≤◌, ◌<◌, List, [], ◌∷◌, ◌++◌, Result, Ok, Err, refl, sym, ap, ◌∙◌, append_assoc, arith}
+use Rattle.std.proofs.Common.{◌≡◌, ℕ, zero, suc, length, take, get_or, subst, ◌-◌, ◌+◌, ◌≤◌, ◌<◌, List, [], ◌∷◌, ◌++◌, Result, Ok, Err, refl, sym, ap, ◌∙◌, append_assoc, arith}
 use Rattle.std.proofs.lemmas.List.{append-nil}
+use Rattle.std.specs.List.{AllByRecursion}
 use Rattle.spec_reading.specs.Reading.{◌>>=◌}
 use Rattle.spec_reading.specs.Reading as reading
 use Rattle.net_wire.specs.declared.unread.Unread.{Unread}
@@ -42,3 +43,10 @@ is_done f front count i bytes total le so_far =
     let k : count - i ≡ 0 = omega arith in
     let one : with_front front (reading.many_at f (count - i) bytes) ≡ Ok (front, bytes) = rw k (ap (λ (xs : List _). Ok (xs, bytes)) (append-nil front)) in
     sym so_far ∙ one
+
+-- ---- writing each of a list
+
+pub each_more : {A : Type 0} (P : A → Type 0) (xs : List A) (i : ℕ) (x : A) → i < length xs → x ≡ get_or xs i x → AllByRecursion P (take i xs) → P x → AllByRecursion P (take (suc i) xs)
+each_more P [] i x lt same all p = absurd (omega arith)
+each_more P (y ∷ xs) zero x lt same all p = (subst P same p, tt)
+each_more P (y ∷ xs) (suc i) x lt same all p = (all.0, each_more P xs i x (omega arith) same all.1 p)

@@ -1,4 +1,5 @@
-ghost use Rattle.std.specs.Prelude.{◌≡◌, IfOk, IsTrue};
+ghost use Rattle.std.specs.Prelude.{◌≡◌, IfOk, OnOk, IsTrue};
+ghost use Rattle.spec_wire.specs.Ranges as ranges;
 ghost use Rattle.spec_wire.specs.Spelling as spelling;
 ghost use Rattle.spec_reading.specs.Packets as packets;
 
@@ -11,19 +12,21 @@ use std::alloc::Global;
 /// Bytes that most spellings have room in.
 const FIRST_ROOM: usize = 128;
 
-/// The spelling of a payload.
+/// The spelling of a payload. Each value of the type is within its ranges, so it is read again.
 pub fn write(alloc: Global, payload: &Payload) -> Result<List<u8>, NoMemory>
     requires { IsTrue (spelling.is_spelled payload.now) }
-    ensures { IfOk result (λ bytes. bytes ≡ spelling.payload_bytes payload.now) }
+    ensures bytes { IfOk result (λ bytes. bytes ≡ spelling.payload_bytes payload.now) }
+    ensures fits { OnOk result (ranges.FitsPayload payload.now) }
 {
     let mut out = Vec::with_capacity(alloc, FIRST_ROOM)?;
     put_payload(&mut out, payload)?;
     Ok(List::from_vec(out))
 }
 
-/// The spelling of an entry.
+/// The spelling of an entry. Each value of the type is within its ranges, so it is read again.
 pub fn write_entry(alloc: Global, entry: &Entry) -> Result<List<u8>, NoMemory>
-    ensures { IfOk result (λ bytes. bytes ≡ spelling.entry_bytes entry.now) }
+    ensures bytes { IfOk result (λ bytes. bytes ≡ spelling.entry_bytes entry.now) }
+    ensures fits { OnOk result (ranges.FitsEntry entry.now) }
 {
     let mut out = Vec::with_capacity(alloc, FIRST_ROOM)?;
     put_entry(&mut out, entry)?;

@@ -2,6 +2,7 @@ ghost use Rattle.std.specs.Prelude.{◌≡◌, [], ◌∷◌, ◌++◌, OnOk};
 ghost use Rattle.spec_wire.specs.NumberBytes as number_bytes;
 ghost use Rattle.spec_wire.specs.OperationBytes as operation_bytes;
 ghost use Rattle.spec_wire.specs.Spelling as spelling;
+ghost use Rattle.spec_wire.specs.Ranges as ranges;
 
 use super::numbers::{put_client_and_number, put_one_number, put_u64};
 use super::operations::put_op;
@@ -17,7 +18,8 @@ pub(super) fn put_keep(
     answered: u64,
     heard: u64,
 ) -> Result<(), NoMemory>
-    ensures { OnOk result (out.new.items ≡ out.old.items ++ kind ∷ client ∷ number_bytes.u64_bytes session ++ number_bytes.u64_bytes answered ++ number_bytes.u64_bytes heard) }
+    ensures bytes { OnOk result (out.new.items ≡ out.old.items ++ kind ∷ client ∷ number_bytes.u64_bytes session ++ number_bytes.u64_bytes answered ++ number_bytes.u64_bytes heard) }
+    ensures fits { OnOk result (ranges.IsClient client) }
 {
     out.push(kind)?;
     out.push(client.number())?;
@@ -36,7 +38,8 @@ pub(super) fn put_command(
     name: &Name,
     op: &Op,
 ) -> Result<(), NoMemory>
-    ensures { OnOk result (out.new.items ≡ out.old.items ++ kind ∷ client ∷ number_bytes.u64_bytes session ++ number_bytes.u64_bytes seq ++ number_bytes.counted_bytes name.now ++ operation_bytes.op_bytes op.now) }
+    ensures bytes { OnOk result (out.new.items ≡ out.old.items ++ kind ∷ client ∷ number_bytes.u64_bytes session ++ number_bytes.u64_bytes seq ++ number_bytes.counted_bytes name.now ++ operation_bytes.op_bytes op.now) }
+    ensures fits { OnOk result (ranges.IsClient client × ranges.IsName name.now × ranges.FitsOp op.now) }
 {
     out.push(kind)?;
     out.push(client.number())?;
@@ -48,7 +51,8 @@ pub(super) fn put_command(
 
 /// A body: its number and its fields.
 fn put_body(out: &mut Vec<u8>, body: &Body) -> Result<(), NoMemory>
-    ensures { OnOk result (out.new.items ≡ out.old.items ++ spelling.body_bytes body.now) }
+    ensures bytes { OnOk result (out.new.items ≡ out.old.items ++ spelling.body_bytes body.now) }
+    ensures fits { OnOk result (ranges.FitsBody body.now) }
 {
     match body {
         Body::Blank => Ok(out.push(0)?),
@@ -73,7 +77,8 @@ fn put_body(out: &mut Vec<u8>, body: &Body) -> Result<(), NoMemory>
 
 /// An entry: its term, its time and its body.
 pub fn put_entry(out: &mut Vec<u8>, entry: &Entry) -> Result<(), NoMemory>
-    ensures { OnOk result (out.new.items ≡ out.old.items ++ spelling.entry_bytes entry.now) }
+    ensures bytes { OnOk result (out.new.items ≡ out.old.items ++ spelling.entry_bytes entry.now) }
+    ensures fits { OnOk result (ranges.FitsEntry entry.now) }
 {
     put_u64(out, entry.term)?;
     put_u64(out, entry.time)?;

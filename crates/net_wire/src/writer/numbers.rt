@@ -1,5 +1,6 @@
 ghost use Rattle.std.specs.Prelude.{◌≡◌, [], ◌∷◌, ◌++◌, OnOk};
 ghost use Rattle.spec_wire.specs.NumberBytes as number_bytes;
+ghost use Rattle.spec_wire.specs.Ranges as ranges;
 
 use ax_types::{ClientId, NoMemory};
 
@@ -62,7 +63,8 @@ pub(super) fn put_client_and_number(
     client: ClientId,
     a: u64,
 ) -> Result<(), NoMemory>
-    ensures { OnOk result (out.new.items ≡ out.old.items ++ kind ∷ client ∷ number_bytes.u64_bytes a) }
+    ensures bytes { OnOk result (out.new.items ≡ out.old.items ++ kind ∷ client ∷ number_bytes.u64_bytes a) }
+    ensures fits { OnOk result (ranges.IsClient client) }
 {
     out.push(kind)?;
     out.push(client.number())?;

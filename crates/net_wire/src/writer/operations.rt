@@ -1,6 +1,7 @@
 ghost use Rattle.std.specs.Prelude.{◌≡◌, [], ◌∷◌, ◌++◌, OnOk};
 ghost use Rattle.spec_wire.specs.NumberBytes as number_bytes;
 ghost use Rattle.spec_wire.specs.OperationBytes as operation_bytes;
+ghost use Rattle.spec_wire.specs.Ranges as ranges;
 
 use super::numbers::{put_i64, put_u64};
 use super::texts::{put_key, put_key_and_text, put_one_key, put_one_text, put_text};
@@ -15,7 +16,8 @@ fn put_put_for(
     text: &Text,
     life: Life,
 ) -> Result<(), NoMemory>
-    ensures { OnOk result (out.new.items ≡ out.old.items ++ 7 ∷ number_bytes.counted_bytes key.now ++ number_bytes.counted_bytes text.now ++ number_bytes.u64_bytes life) }
+    ensures bytes { OnOk result (out.new.items ≡ out.old.items ++ 7 ∷ number_bytes.counted_bytes key.now ++ number_bytes.counted_bytes text.now ++ number_bytes.u64_bytes life) }
+    ensures fits { OnOk result (ranges.IsName key.now × ranges.IsText text.now × ranges.IsLife life) }
 {
     out.push(7)?;
     put_key(out, key)?;
@@ -24,7 +26,8 @@ fn put_put_for(
 }
 
 fn put_map_op(out: &mut Vec<u8>, op: &MapOp) -> Result<(), NoMemory>
-    ensures { OnOk result (out.new.items ≡ out.old.items ++ operation_bytes.map_op_bytes op.now) }
+    ensures bytes { OnOk result (out.new.items ≡ out.old.items ++ operation_bytes.map_op_bytes op.now) }
+    ensures fits { OnOk result (ranges.FitsMapOp op.now) }
 {
     match op {
         MapOp::Put { key, text } => put_key_and_text(out, 1, key, text),
@@ -43,7 +46,8 @@ fn put_two_texts(
     one: &Text,
     other: &Text,
 ) -> Result<(), NoMemory>
-    ensures { OnOk result (out.new.items ≡ out.old.items ++ number ∷ number_bytes.counted_bytes one.now ++ number_bytes.counted_bytes other.now) }
+    ensures bytes { OnOk result (out.new.items ≡ out.old.items ++ number ∷ number_bytes.counted_bytes one.now ++ number_bytes.counted_bytes other.now) }
+    ensures fits { OnOk result (ranges.IsText one.now × ranges.IsText other.now) }
 {
     out.push(number)?;
     put_text(out, one)?;
@@ -51,7 +55,8 @@ fn put_two_texts(
 }
 
 fn put_value_op(out: &mut Vec<u8>, op: &ValueOp) -> Result<(), NoMemory>
-    ensures { OnOk result (out.new.items ≡ out.old.items ++ operation_bytes.value_op_bytes op.now) }
+    ensures bytes { OnOk result (out.new.items ≡ out.old.items ++ operation_bytes.value_op_bytes op.now) }
+    ensures fits { OnOk result (ranges.FitsValueOp op.now) }
 {
     match op {
         ValueOp::Set { text } => put_one_text(out, 1, text),
@@ -77,7 +82,8 @@ fn put_two_signed(out: &mut Vec<u8>, number: u8, a: i64, b: i64) -> Result<(), N
 }
 
 fn put_long_op(out: &mut Vec<u8>, op: LongOp) -> Result<(), NoMemory>
-    ensures { OnOk result (out.new.items ≡ out.old.items ++ operation_bytes.long_op_bytes op) }
+    ensures bytes { OnOk result (out.new.items ≡ out.old.items ++ operation_bytes.long_op_bytes op) }
+    ensures fits { OnOk result (ranges.FitsLongOp op) }
 {
     match op {
         LongOp::Add { delta } => put_one_signed(out, 1, delta),
@@ -111,7 +117,8 @@ fn put_group_op(out: &mut Vec<u8>, op: GroupOp) -> Result<(), NoMemory>
 }
 
 fn put_set_op(out: &mut Vec<u8>, op: &SetOp) -> Result<(), NoMemory>
-    ensures { OnOk result (out.new.items ≡ out.old.items ++ operation_bytes.set_op_bytes op.now) }
+    ensures bytes { OnOk result (out.new.items ≡ out.old.items ++ operation_bytes.set_op_bytes op.now) }
+    ensures fits { OnOk result (ranges.FitsSetOp op.now) }
 {
     match op {
         SetOp::Add { text } => put_one_text(out, 1, text),
@@ -121,7 +128,8 @@ fn put_set_op(out: &mut Vec<u8>, op: &SetOp) -> Result<(), NoMemory>
 }
 
 fn put_queue_op(out: &mut Vec<u8>, op: &QueueOp) -> Result<(), NoMemory>
-    ensures { OnOk result (out.new.items ≡ out.old.items ++ operation_bytes.queue_op_bytes op.now) }
+    ensures bytes { OnOk result (out.new.items ≡ out.old.items ++ operation_bytes.queue_op_bytes op.now) }
+    ensures fits { OnOk result (ranges.FitsQueueOp op.now) }
 {
     match op {
         QueueOp::Offer { text } => put_one_text(out, 1, text),
@@ -130,7 +138,8 @@ fn put_queue_op(out: &mut Vec<u8>, op: &QueueOp) -> Result<(), NoMemory>
 }
 
 fn put_multimap_op(out: &mut Vec<u8>, op: &MultimapOp) -> Result<(), NoMemory>
-    ensures { OnOk result (out.new.items ≡ out.old.items ++ operation_bytes.multimap_op_bytes op.now) }
+    ensures bytes { OnOk result (out.new.items ≡ out.old.items ++ operation_bytes.multimap_op_bytes op.now) }
+    ensures fits { OnOk result (ranges.FitsMultimapOp op.now) }
 {
     match op {
         MultimapOp::Put { key, text } => put_key_and_text(out, 1, key, text),
@@ -140,7 +149,8 @@ fn put_multimap_op(out: &mut Vec<u8>, op: &MultimapOp) -> Result<(), NoMemory>
 }
 
 fn put_topic_op(out: &mut Vec<u8>, op: &TopicOp) -> Result<(), NoMemory>
-    ensures { OnOk result (out.new.items ≡ out.old.items ++ operation_bytes.topic_op_bytes op.now) }
+    ensures bytes { OnOk result (out.new.items ≡ out.old.items ++ operation_bytes.topic_op_bytes op.now) }
+    ensures fits { OnOk result (ranges.FitsTopicOp op.now) }
 {
     match op {
         TopicOp::Subscribe => Ok(out.push(1)?),
@@ -151,7 +161,8 @@ fn put_topic_op(out: &mut Vec<u8>, op: &TopicOp) -> Result<(), NoMemory>
 
 /// An operation: its kind, its number and its operands.
 pub(super) fn put_op(out: &mut Vec<u8>, op: &Op) -> Result<(), NoMemory>
-    ensures { OnOk result (out.new.items ≡ out.old.items ++ operation_bytes.op_bytes op.now) }
+    ensures bytes { OnOk result (out.new.items ≡ out.old.items ++ operation_bytes.op_bytes op.now) }
+    ensures fits { OnOk result (ranges.FitsOp op.now) }
 {
     match op {
         Op::Map(op) => {

@@ -1,8 +1,9 @@
 ghost use Rattle.std.specs.Prelude.{◌≡◌, ◌≤◌, ◌<◌, ◌^◌, [], ◌∷◌, ◌++◌, OnOk, IsTrue, length};
-ghost use Rattle.std.specs.List.{flat_map};
+ghost use Rattle.std.specs.List.{AllByRecursion, flat_map};
 ghost use Rattle.spec_wire.specs.NumberBytes as number_bytes;
 ghost use Rattle.spec_wire.specs.OperationBytes as operation_bytes;
 ghost use Rattle.spec_wire.specs.Spelling as spelling;
+ghost use Rattle.spec_wire.specs.Ranges as ranges;
 
 use super::entries::{put_command, put_entry, put_keep};
 use super::numbers::{put_client_and_number, put_truth, put_two_numbers, put_u32, put_u64};
@@ -31,7 +32,8 @@ fn how_byte(how: How) -> u8
 
 /// Each of these entries.
 fn put_each_entry(out: &mut Vec<u8>, entries: &[Entry]) -> Result<(), NoMemory>
-    ensures { OnOk result (out.new.items ≡ out.old.items ++ flat_map spelling.entry_bytes entries.now) }
+    ensures bytes { OnOk result (out.new.items ≡ out.old.items ++ flat_map spelling.entry_bytes entries.now) }
+    ensures fits { OnOk result (AllByRecursion ranges.FitsEntry entries.now) }
 {
     'entries: for entry in entries {
         put_entry(out, entry)?;
@@ -42,7 +44,8 @@ fn put_each_entry(out: &mut Vec<u8>, entries: &[Entry]) -> Result<(), NoMemory>
 /// The count of the entries in one byte, and each.
 fn put_entries(out: &mut Vec<u8>, entries: &List<Entry>) -> Result<(), NoMemory>
     requires { length entries.now < 256 }
-    ensures { OnOk result (out.new.items ≡ out.old.items ++ spelling.entries_bytes entries.now) }
+    ensures bytes { OnOk result (out.new.items ≡ out.old.items ++ spelling.entries_bytes entries.now) }
+    ensures fits { OnOk result (AllByRecursion ranges.FitsEntry entries.now) }
 {
     out.push(entries.len() as u8)?;
     put_each_entry(out, entries.as_slice())
@@ -50,7 +53,8 @@ fn put_entries(out: &mut Vec<u8>, entries: &List<Entry>) -> Result<(), NoMemory>
 
 /// Each of these events.
 fn put_each_event(out: &mut Vec<u8>, events: &[Event]) -> Result<(), NoMemory>
-    ensures { OnOk result (out.new.items ≡ out.old.items ++ flat_map operation_bytes.event_bytes events.now) }
+    ensures bytes { OnOk result (out.new.items ≡ out.old.items ++ flat_map operation_bytes.event_bytes events.now) }
+    ensures fits { OnOk result (AllByRecursion ranges.FitsEvent events.now) }
 {
     'events: for event in events {
         put_event(out, event)?;
@@ -61,7 +65,8 @@ fn put_each_event(out: &mut Vec<u8>, events: &[Event]) -> Result<(), NoMemory>
 /// The count of the events in four bytes, and each.
 fn put_events(out: &mut Vec<u8>, events: &List<Event>) -> Result<(), NoMemory>
     requires { length events.now < 2 ^ 32 }
-    ensures { OnOk result (out.new.items ≡ out.old.items ++ spelling.events_bytes events.now) }
+    ensures bytes { OnOk result (out.new.items ≡ out.old.items ++ spelling.events_bytes events.now) }
+    ensures fits { OnOk result (AllByRecursion ranges.FitsEvent events.now) }
 {
     put_u32(out, events.len() as u32)?;
     put_each_event(out, events.as_slice())
@@ -94,7 +99,8 @@ fn put_append(
     entries: &List<Entry>,
 ) -> Result<(), NoMemory>
     requires { length entries.now < 256 }
-    ensures { OnOk result (out.new.items ≡ out.old.items ++ 3 ∷ number_bytes.u64_bytes term ++ number_bytes.u64_bytes prev ++ number_bytes.u64_bytes prev_term ++ number_bytes.u64_bytes commit ++ number_bytes.u64_bytes round ++ spelling.entries_bytes entries.now) }
+    ensures bytes { OnOk result (out.new.items ≡ out.old.items ++ 3 ∷ number_bytes.u64_bytes term ++ number_bytes.u64_bytes prev ++ number_bytes.u64_bytes prev_term ++ number_bytes.u64_bytes commit ++ number_bytes.u64_bytes round ++ spelling.entries_bytes entries.now) }
+    ensures fits { OnOk result (AllByRecursion ranges.FitsEntry entries.now) }
 {
     out.push(3)?;
     put_u64(out, term)?;
@@ -129,7 +135,8 @@ fn put_client_and_two(
     a: u64,
     b: u64,
 ) -> Result<(), NoMemory>
-    ensures { OnOk result (out.new.items ≡ out.old.items ++ kind ∷ client ∷ number_bytes.u64_bytes a ++ number_bytes.u64_bytes b) }
+    ensures bytes { OnOk result (out.new.items ≡ out.old.items ++ kind ∷ client ∷ number_bytes.u64_bytes a ++ number_bytes.u64_bytes b) }
+    ensures fits { OnOk result (ranges.IsClient client) }
 {
     put_client_and_number(out, kind, client, a)?;
     put_u64(out, b)
@@ -145,7 +152,8 @@ fn put_query_numbers(
     seen: u64,
     seq: u64,
 ) -> Result<(), NoMemory>
-    ensures { OnOk result (out.new.items ≡ out.old.items ++ 9 ∷ client ∷ number_bytes.u64_bytes session ++ number_bytes.u64_bytes call ++ spelling.level_bytes level ++ number_bytes.u64_bytes seen ++ number_bytes.u64_bytes seq) }
+    ensures bytes { OnOk result (out.new.items ≡ out.old.items ++ 9 ∷ client ∷ number_bytes.u64_bytes session ++ number_bytes.u64_bytes call ++ spelling.level_bytes level ++ number_bytes.u64_bytes seen ++ number_bytes.u64_bytes seq) }
+    ensures fits { OnOk result (ranges.IsClient client) }
 {
     put_client_and_two(out, 9, client, session, call)?;
     out.push(level_byte(level))?;
@@ -154,7 +162,8 @@ fn put_query_numbers(
 }
 
 fn put_name_and_query(out: &mut Vec<u8>, name: &Name, query: &Query) -> Result<(), NoMemory>
-    ensures { OnOk result (out.new.items ≡ out.old.items ++ number_bytes.counted_bytes name.now ++ operation_bytes.query_bytes query.now) }
+    ensures bytes { OnOk result (out.new.items ≡ out.old.items ++ number_bytes.counted_bytes name.now ++ operation_bytes.query_bytes query.now) }
+    ensures fits { OnOk result (ranges.IsName name.now × ranges.FitsQuery query.now) }
 {
     put_name(out, name)?;
     put_query(out, query)
@@ -169,7 +178,8 @@ fn put_reply_payload(
     reply: &Reply,
 ) -> Result<(), NoMemory>
     requires { IsTrue (spelling.reply_is_spelled reply.now) }
-    ensures { OnOk result (out.new.items ≡ out.old.items ++ 13 ∷ number_bytes.u64_bytes session ++ number_bytes.u64_bytes seq ++ number_bytes.u64_bytes place ++ number_bytes.u64_bytes events ++ operation_bytes.reply_bytes reply.now) }
+    ensures bytes { OnOk result (out.new.items ≡ out.old.items ++ 13 ∷ number_bytes.u64_bytes session ++ number_bytes.u64_bytes seq ++ number_bytes.u64_bytes place ++ number_bytes.u64_bytes events ++ operation_bytes.reply_bytes reply.now) }
+    ensures fits { OnOk result (ranges.FitsReply reply.now) }
 {
     put_two_numbers(out, 13, session, seq)?;
     put_u64(out, place)?;
@@ -206,7 +216,8 @@ fn put_batch(
     events: &List<Event>,
 ) -> Result<(), NoMemory>
     requires { length events.now < 2 ^ 32 }
-    ensures { OnOk result (out.new.items ≡ out.old.items ++ 16 ∷ number_bytes.u64_bytes session ++ number_bytes.u64_bytes place ++ number_bytes.u64_bytes prev ++ spelling.events_bytes events.now) }
+    ensures bytes { OnOk result (out.new.items ≡ out.old.items ++ 16 ∷ number_bytes.u64_bytes session ++ number_bytes.u64_bytes place ++ number_bytes.u64_bytes prev ++ spelling.events_bytes events.now) }
+    ensures fits { OnOk result (AllByRecursion ranges.FitsEvent events.now) }
 {
     put_two_numbers(out, 16, session, place)?;
     put_u64(out, prev)?;
@@ -224,7 +235,8 @@ fn put_ended(out: &mut Vec<u8>, session: u64, place: u64, how: How) -> Result<()
 /// Appends the spelling of a payload: its number and its fields.
 pub fn put_payload(out: &mut Vec<u8>, payload: &Payload) -> Result<(), NoMemory>
     requires { IsTrue (spelling.is_spelled payload.now) }
-    ensures { OnOk result (out.new.items ≡ out.old.items ++ spelling.payload_bytes payload.now) }
+    ensures bytes { OnOk result (out.new.items ≡ out.old.items ++ spelling.payload_bytes payload.now) }
+    ensures fits { OnOk result (ranges.FitsPayload payload.now) }
 {
     match payload {
         Payload::Vote {

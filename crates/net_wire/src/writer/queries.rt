@@ -1,5 +1,6 @@
 ghost use Rattle.std.specs.Prelude.{◌≡◌, [], ◌∷◌, ◌++◌, OnOk};
 ghost use Rattle.spec_wire.specs.OperationBytes as operation_bytes;
+ghost use Rattle.spec_wire.specs.Ranges as ranges;
 
 use super::texts::{put_key_and_text, put_one_key, put_one_text};
 use ax_types::{
@@ -8,7 +9,8 @@ use ax_types::{
 };
 
 fn put_map_query(out: &mut Vec<u8>, query: &MapQuery) -> Result<(), NoMemory>
-    ensures { OnOk result (out.new.items ≡ out.old.items ++ operation_bytes.map_query_bytes query.now) }
+    ensures bytes { OnOk result (out.new.items ≡ out.old.items ++ operation_bytes.map_query_bytes query.now) }
+    ensures fits { OnOk result (ranges.FitsMapQuery query.now) }
 {
     match query {
         MapQuery::Get { key } => put_one_key(out, 1, key),
@@ -38,7 +40,8 @@ fn put_group_query(out: &mut Vec<u8>, query: GroupQuery) -> Result<(), NoMemory>
 }
 
 fn put_set_query(out: &mut Vec<u8>, query: &SetQuery) -> Result<(), NoMemory>
-    ensures { OnOk result (out.new.items ≡ out.old.items ++ operation_bytes.set_query_bytes query.now) }
+    ensures bytes { OnOk result (out.new.items ≡ out.old.items ++ operation_bytes.set_query_bytes query.now) }
+    ensures fits { OnOk result (ranges.FitsSetQuery query.now) }
 {
     match query {
         SetQuery::Contains { text } => put_one_text(out, 1, text),
@@ -57,7 +60,8 @@ fn put_queue_query(out: &mut Vec<u8>, query: QueueQuery) -> Result<(), NoMemory>
 }
 
 fn put_multimap_query(out: &mut Vec<u8>, query: &MultimapQuery) -> Result<(), NoMemory>
-    ensures { OnOk result (out.new.items ≡ out.old.items ++ operation_bytes.multimap_query_bytes query.now) }
+    ensures bytes { OnOk result (out.new.items ≡ out.old.items ++ operation_bytes.multimap_query_bytes query.now) }
+    ensures fits { OnOk result (ranges.FitsMultimapQuery query.now) }
 {
     match query {
         MultimapQuery::Contains { key, text } => put_key_and_text(out, 1, key, text),
@@ -68,7 +72,8 @@ fn put_multimap_query(out: &mut Vec<u8>, query: &MultimapQuery) -> Result<(), No
 
 /// A query: its kind, its number and its operands.
 pub(super) fn put_query(out: &mut Vec<u8>, query: &Query) -> Result<(), NoMemory>
-    ensures { OnOk result (out.new.items ≡ out.old.items ++ operation_bytes.query_bytes query.now) }
+    ensures bytes { OnOk result (out.new.items ≡ out.old.items ++ operation_bytes.query_bytes query.now) }
+    ensures fits { OnOk result (ranges.FitsQuery query.now) }
 {
     match query {
         Query::Map(query) => {

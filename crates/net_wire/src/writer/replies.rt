@@ -1,8 +1,9 @@
 ghost use Rattle.std.specs.Prelude.{◌≡◌, ◌<◌, ◌^◌, [], ◌∷◌, ◌++◌, OnOk, IsTrue, length};
-ghost use Rattle.std.specs.List.{flat_map};
+ghost use Rattle.std.specs.List.{AllByRecursion, flat_map};
 ghost use Rattle.spec_wire.specs.NumberBytes as number_bytes;
 ghost use Rattle.spec_wire.specs.OperationBytes as operation_bytes;
 ghost use Rattle.spec_wire.specs.Spelling as spelling;
+ghost use Rattle.spec_wire.specs.Ranges as ranges;
 
 use super::numbers::{put_i64, put_one_number, put_two_numbers, put_u32, put_u64};
 use super::texts::{put_key, put_name, put_one_text, put_text};
@@ -10,7 +11,8 @@ use ax_types::{Event, Key, List, Name, NoMemory, Reply, Text};
 
 /// Each of these numbers, in eight bytes.
 fn put_numbers(out: &mut Vec<u8>, numbers: &[u64]) -> Result<(), NoMemory>
-    ensures { OnOk result (out.new.items ≡ out.old.items ++ flat_map number_bytes.u64_bytes numbers.now) }
+    ensures bytes { OnOk result (out.new.items ≡ out.old.items ++ flat_map number_bytes.u64_bytes numbers.now) }
+    ensures fits { OnOk result (AllByRecursion ranges.IsNumber numbers.now) }
 {
     'numbers: for number in numbers {
         put_u64(out, *number)?;
@@ -21,7 +23,8 @@ fn put_numbers(out: &mut Vec<u8>, numbers: &[u64]) -> Result<(), NoMemory>
 /// The sessions of a group: their count in four bytes, and each.
 fn put_members(out: &mut Vec<u8>, sessions: &List<u64>) -> Result<(), NoMemory>
     requires { length sessions.now < 2 ^ 32 }
-    ensures { OnOk result (out.new.items ≡ out.old.items ++ 9 ∷ operation_bytes.members_bytes sessions.now) }
+    ensures bytes { OnOk result (out.new.items ≡ out.old.items ++ 9 ∷ operation_bytes.members_bytes sessions.now) }
+    ensures fits { OnOk result (AllByRecursion ranges.IsNumber sessions.now) }
 {
     out.push(9)?;
     put_u32(out, sessions.len() as u32)?;
@@ -39,7 +42,8 @@ fn put_signed(out: &mut Vec<u8>, kind: u8, number: i64) -> Result<(), NoMemory>
 /// A reply: its number and its fields.
 pub(super) fn put_reply(out: &mut Vec<u8>, reply: &Reply) -> Result<(), NoMemory>
     requires { IsTrue (spelling.reply_is_spelled reply.now) }
-    ensures { OnOk result (out.new.items ≡ out.old.items ++ operation_bytes.reply_bytes reply.now) }
+    ensures bytes { OnOk result (out.new.items ≡ out.old.items ++ operation_bytes.reply_bytes reply.now) }
+    ensures fits { OnOk result (ranges.FitsReply reply.now) }
 {
     match reply {
         Reply::Done => Ok(out.push(0)?),
@@ -64,7 +68,8 @@ pub(super) fn put_reply(out: &mut Vec<u8>, reply: &Reply) -> Result<(), NoMemory
 
 /// A number, and the name of a resource.
 fn put_one_name(out: &mut Vec<u8>, number: u8, name: &Name) -> Result<(), NoMemory>
-    ensures { OnOk result (out.new.items ≡ out.old.items ++ number ∷ number_bytes.counted_bytes name.now) }
+    ensures bytes { OnOk result (out.new.items ≡ out.old.items ++ number ∷ number_bytes.counted_bytes name.now) }
+    ensures fits { OnOk result (ranges.IsName name.now) }
 {
     out.push(number)?;
     put_name(out, name)
@@ -77,7 +82,8 @@ fn put_name_and_key(
     name: &Name,
     key: &Key,
 ) -> Result<(), NoMemory>
-    ensures { OnOk result (out.new.items ≡ out.old.items ++ number ∷ number_bytes.counted_bytes name.now ++ number_bytes.counted_bytes key.now) }
+    ensures bytes { OnOk result (out.new.items ≡ out.old.items ++ number ∷ number_bytes.counted_bytes name.now ++ number_bytes.counted_bytes key.now) }
+    ensures fits { OnOk result (ranges.IsName name.now × ranges.IsName key.now) }
 {
     out.push(number)?;
     put_name(out, name)?;
@@ -91,7 +97,8 @@ fn put_name_and_text(
     name: &Name,
     text: &Text,
 ) -> Result<(), NoMemory>
-    ensures { OnOk result (out.new.items ≡ out.old.items ++ number ∷ number_bytes.counted_bytes name.now ++ number_bytes.counted_bytes text.now) }
+    ensures bytes { OnOk result (out.new.items ≡ out.old.items ++ number ∷ number_bytes.counted_bytes name.now ++ number_bytes.counted_bytes text.now) }
+    ensures fits { OnOk result (ranges.IsName name.now × ranges.IsText text.now) }
 {
     out.push(number)?;
     put_name(out, name)?;
@@ -105,7 +112,8 @@ fn put_name_and_number(
     name: &Name,
     a: u64,
 ) -> Result<(), NoMemory>
-    ensures { OnOk result (out.new.items ≡ out.old.items ++ number ∷ number_bytes.counted_bytes name.now ++ number_bytes.u64_bytes a) }
+    ensures bytes { OnOk result (out.new.items ≡ out.old.items ++ number ∷ number_bytes.counted_bytes name.now ++ number_bytes.u64_bytes a) }
+    ensures fits { OnOk result (ranges.IsName name.now) }
 {
     out.push(number)?;
     put_name(out, name)?;
@@ -118,7 +126,8 @@ fn put_changed(
     key: &Key,
     text: &Text,
 ) -> Result<(), NoMemory>
-    ensures { OnOk result (out.new.items ≡ out.old.items ++ 1 ∷ number_bytes.counted_bytes name.now ++ number_bytes.counted_bytes key.now ++ number_bytes.counted_bytes text.now) }
+    ensures bytes { OnOk result (out.new.items ≡ out.old.items ++ 1 ∷ number_bytes.counted_bytes name.now ++ number_bytes.counted_bytes key.now ++ number_bytes.counted_bytes text.now) }
+    ensures fits { OnOk result (ranges.IsName name.now × ranges.IsName key.now × ranges.IsText text.now) }
 {
     out.push(1)?;
     put_name(out, name)?;
@@ -132,7 +141,8 @@ fn put_elected(
     session: u64,
     term: u64,
 ) -> Result<(), NoMemory>
-    ensures { OnOk result (out.new.items ≡ out.old.items ++ 8 ∷ number_bytes.counted_bytes name.now ++ number_bytes.u64_bytes session ++ number_bytes.u64_bytes term) }
+    ensures bytes { OnOk result (out.new.items ≡ out.old.items ++ 8 ∷ number_bytes.counted_bytes name.now ++ number_bytes.u64_bytes session ++ number_bytes.u64_bytes term) }
+    ensures fits { OnOk result (ranges.IsName name.now) }
 {
     out.push(8)?;
     put_name(out, name)?;
@@ -142,7 +152,8 @@ fn put_elected(
 
 /// An event: its number, the name of its resource, and its other fields.
 pub(super) fn put_event(out: &mut Vec<u8>, event: &Event) -> Result<(), NoMemory>
-    ensures { OnOk result (out.new.items ≡ out.old.items ++ operation_bytes.event_bytes event.now) }
+    ensures bytes { OnOk result (out.new.items ≡ out.old.items ++ operation_bytes.event_bytes event.now) }
+    ensures fits { OnOk result (ranges.FitsEvent event.now) }
 {
     match event {
         Event::Changed { name, key, text } => put_changed(out, name, key, text),
