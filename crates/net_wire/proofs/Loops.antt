@@ -1,7 +1,7 @@
 -- Reading values one after the other, as a loop does.
-use Rattle.std.proofs.Common.{◌≡◌, ℕ, zero, suc, length, take, get_or, subst, ◌-◌, ◌+◌, ◌≤◌, ◌<◌, List, [], ◌∷◌, ◌++◌, Result, Ok, Err, refl, sym, ap, ◌∙◌, append_assoc, arith}
+use Rattle.std.proofs.Common.{◌≡◌, ℕ, zero, suc, length, take, get_or, subst, ◌-◌, ◌+◌, ◌≤◌, ◌<◌, List, [], ◌∷◌, ◌++◌, Result, Ok, Err, refl, sym, ap, ◌∙◌, append_assoc, add-one, arith}
 use Rattle.std.proofs.lemmas.List.{append-nil}
-use Rattle.std.specs.List.{AllByRecursion}
+use Rattle.std.specs.List.{AllByRecursion, flat_map}
 use Rattle.spec_reading.specs.Reading.{◌>>=◌}
 use Rattle.spec_reading.specs.Reading as reading
 use Rattle.net_wire.specs.declared.unread.Unread.{Unread}
@@ -46,7 +46,37 @@ is_done f front count i bytes total le so_far =
 
 -- ---- writing each of a list
 
-pub each_more : {A : Type 0} (P : A → Type 0) (xs : List A) (i : ℕ) (x : A) → i < length xs → x ≡ get_or xs i x → AllByRecursion P (take i xs) → P x → AllByRecursion P (take (suc i) xs)
-each_more P [] i x lt same all p = absurd (omega arith)
-each_more P (y ∷ xs) zero x lt same all p = (subst P same p, tt)
-each_more P (y ∷ xs) (suc i) x lt same all p = (all.0, each_more P xs i x (omega arith) same all.1 p)
+-- behind what there was before stands the spelling of each, and each is within its ranges
+pub record Written {A : Type 0} (f : A → List ℕ) (P : A → Type 0) (before now : List ℕ) (xs : List A) : Type 0 where
+  pub bytes : now ≡ before ++ flat_map f xs
+  pub fits : AllByRecursion P xs
+
+each_fits : {A : Type 0} (P : A → Type 0) (xs : List A) (i : ℕ) (x : A) → i < length xs → x ≡ get_or xs i x → AllByRecursion P (take i xs) → P x → AllByRecursion P (take (suc i) xs)
+each_fits P [] i x lt same all p = absurd (omega arith)
+each_fits P (y ∷ xs) zero x lt same all p = (subst P same p, tt)
+each_fits P (y ∷ xs) (suc i) x lt same all p = (all.0, each_fits P xs i x (omega arith) same all.1 p)
+
+each_put : {A : Type 0} (f : A → List ℕ) (xs : List A) (i : ℕ) (x : A) → i < length xs → x ≡ get_or xs i x → flat_map f (take (suc i) xs) ≡ flat_map f (take i xs) ++ f x
+each_put f [] i x lt same = absurd (omega arith)
+each_put f (y ∷ xs) zero x lt same = append-nil (f y) ∙ ap f (sym same)
+each_put f (y ∷ xs) (suc i) x lt same = ap (λ (t : List ℕ). f y ++ t) (each_put f xs i x (omega arith) same) ∙ sym (append_assoc (f y) (flat_map f (take i xs)) (f x))
+
+pub written_more : {A : Type 0} (f : A → List ℕ) (P : A → Type 0) (before now next : List ℕ) (xs : List A) (i : ℕ) (x : A) → i < length xs → x ≡ get_or xs i x
+    → Written f P before now (take i xs) → next ≡ now ++ f x → P x → Written f P before next (take (i + 1) xs)
+written_more f P before now next xs i x lt same w put p =
+    rw (add-one i) (record {
+      bytes = put ∙ ap (λ (t : List ℕ). t ++ f x) w.bytes ∙ append_assoc before (flat_map f (take i xs)) (f x) ∙ ap (λ (t : List ℕ). before ++ t) (sym (each_put f xs i x lt same));
+      fits = each_fits P xs i x lt same w.fits p;
+    })
+
+take_whole : {A : Type 0} (xs : List A) (i : ℕ) → length xs ≤ i → take i xs ≡ xs
+take_whole [] zero le = refl
+take_whole [] (suc i) le = refl
+take_whole (x ∷ xs) zero le = absurd (omega arith)
+take_whole (x ∷ xs) (suc i) le = ap (λ (t : List _). x ∷ t) (take_whole xs i (omega arith))
+
+pub written_all : {A : Type 0} (f : A → List ℕ) (P : A → Type 0) (before now : List ℕ) (xs : List A) (i : ℕ) → length xs ≤ i → Written f P before now (take i xs) → Written f P before now xs
+written_all f P before now xs i le w = subst (λ (t : List _). Written f P before now t) (take_whole xs i le) w
+
+pub written_none : {A : Type 0} (f : A → List ℕ) (P : A → Type 0) (before : List ℕ) (xs : List A) → Written f P before before (take 0 xs)
+written_none f P before xs = record { bytes = sym (append-nil before); fits = tt }

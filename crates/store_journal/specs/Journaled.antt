@@ -3,9 +3,11 @@ use Rattle.std.specs.Prelude.{◌≡◌, ◌+◌, ◌^◌, ℕ, Bool, true, fals
 use Rattle.ax_types.specs.declared.entries.Entry.{Entry}
 use Rattle.ax_types.specs.declared.refusals.StoreError.{StoreError}
 use Rattle.ax_types.specs.declared.refusals.StoreError.TheVariants as store_error
+use Rattle.ax_io.specs.Content as contents
 use Rattle.spec_journal.specs.Journal as journals
 use Rattle.spec_journal.specs.Records as journal_records
 use Rattle.store_journal.specs.Told as stores
+use Rattle.store_journal.specs.Kept as keepers
 
 abbrev pub told_of_journal : journals.Journal → stores.Told
 told_of_journal j = if j.bad then stores.Bad j.whole else stores.Content j.content
@@ -46,3 +48,10 @@ cut_records counted entries last = first_records counted entries ++ journal_reco
 abbrev pub add_records : Bool → ℕ → List Entry → List journal_records.Record
 add_records counted entries [] = []
 add_records counted entries (e ∷ added) = first_records counted entries ++ journals.placed_records (entries + 1) (e ∷ added)
+
+-- what a store's append does to the bytes of its keeper
+abbrev pub StoreAppends : Option (List ℕ) → Option (List ℕ) → List ℕ → Result (Unit {0}) StoreError → Type 0
+StoreAppends before now bytes (Ok _) = now ≡ contents.append_told before bytes
+StoreAppends before now bytes (Err store_error.Failed) = keepers.IsTorn before now bytes
+StoreAppends before now bytes (Err store_error.NoMemory) = now ≡ before
+StoreAppends before now bytes (Err (store_error.Bad at)) = ⊥

@@ -1,5 +1,5 @@
 -- What a store tells of what it keeps, and what each of its calls does to that.
-use Rattle.std.specs.Prelude.{◌≡◌, ◌≤◌, ℕ, Bool, false, nat_eq, List, length, Result, Ok, Err, IsErrOf, if◌then◌else◌}
+use Rattle.std.specs.Prelude.{◌≡◌, ◌≤◌, ℕ, Bool, false, nat_eq, List, length, Some, Result, Ok, Err, IsErrOf, if◌then◌else◌}
 use Rattle.ax_types.specs.declared.entries.Loaded.{Loaded}
 use Rattle.ax_types.specs.declared.entries.Upgraded.{Upgraded}
 use Rattle.ax_types.specs.declared.refusals.StoreError.{StoreError}
@@ -60,7 +60,7 @@ upgraded_version version = if nat_eq version 0 then 0 else 2
 pub record IsUpgraded (kept : Loaded) (before now : ℕ) (found : Upgraded) : Type 0 where
   pub version : found.version ≡ before
   pub entries : found.entries ≡ length kept.log
-  pub now : now ≡ upgraded_version before
+  pub after : now ≡ upgraded_version before
 
 -- what upgrading answers, by what is told and by the versions before and after
 abbrev pub Upgrades : Told → ℕ → ℕ → Result Upgraded StoreError → Type 0
