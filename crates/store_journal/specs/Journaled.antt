@@ -8,6 +8,7 @@ use Rattle.spec_journal.specs.Journal as journals
 use Rattle.spec_journal.specs.Records as journal_records
 use Rattle.store_journal.specs.Told as stores
 use Rattle.store_journal.specs.Kept as keepers
+use Rattle.store_journal.specs.Found as found
 
 abbrev pub told_of_journal : journals.Journal → stores.Told
 told_of_journal j = if j.bad then stores.Bad j.whole else stores.Content j.content
@@ -55,3 +56,9 @@ StoreAppends before now bytes (Ok _) = now ≡ contents.append_told before bytes
 StoreAppends before now bytes (Err store_error.Failed) = keepers.IsTorn before now bytes
 StoreAppends before now bytes (Err store_error.NoMemory) = now ≡ before
 StoreAppends before now bytes (Err (store_error.Bad at)) = ⊥
+
+-- what loading finds in the bytes of a keeper
+abbrev pub LoadsFound : Option (List ℕ) → Result (found.Found × ℕ) StoreError → Type 0
+LoadsFound (Some bytes) (Ok x) = found.IsFound bytes x.0 x.1
+LoadsFound (Some bytes) (Err (store_error.Bad at)) = found.IsBadAt (journals.journal_of bytes) at
+LoadsFound _ _ = Unit {0}
