@@ -1,5 +1,5 @@
 -- What a keeper tells of its bytes, and what each of its calls does to them.
-use Rattle.std.specs.Prelude.{◌≡◌, ◌<◌, ◌≤◌, ℕ, List, ◌++◌, length, take, Option, Some, None, Result, Ok, Err, IsErrOf}
+use Rattle.std.specs.Prelude.{◌≡◌, ◌<◌, ◌≤◌, ℕ, List, length, take, Option, Some, None, Result, Ok, Err, IsErrOf}
 use Rattle.ax_types.specs.declared.refusals.KeeperError.{KeeperError}
 use Rattle.ax_types.specs.declared.refusals.KeeperError.TheVariants as keeper_error
 use Rattle.ax_io.specs.Count as counts

@@ -1,5 +1,3 @@
 pub mod Told
 pub mod Kept
 pub mod Memory
-pub mod Found
-pub mod Journaled

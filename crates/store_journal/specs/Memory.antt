@@ -1,5 +1,5 @@
 -- The store and the keeper that live in memory, and which of their calls fail.
-use Rattle.std.specs.Prelude.{ℕ, Bool, ◌==◌, if◌then◌else◌, List, Option, Some, None, find, is_some}
+use Rattle.std.specs.Prelude.{ℕ, Bool, ◌==◌, if◌then◌else◌, List, Option, find, is_some}
 use Rattle.std.specs.Option.{option_map}
 use Rattle.ax_types.specs.declared.entries.Loaded.{Loaded}
 use Rattle.ax_io.specs.Count as counts

@@ -1,5 +1,5 @@
 -- What a store tells of what it keeps, and what each of its calls does to that.
-use Rattle.std.specs.Prelude.{◌≡◌, ◌≤◌, ℕ, Bool, false, nat_eq, List, length, Some, Result, Ok, Err, IsErrOf, if◌then◌else◌}
+use Rattle.std.specs.Prelude.{◌≡◌, ◌≤◌, ℕ, nat_eq, length, Some, Result, Ok, Err, IsErrOf, if◌then◌else◌}
 use Rattle.ax_types.specs.declared.entries.Loaded.{Loaded}
 use Rattle.ax_types.specs.declared.entries.Upgraded.{Upgraded}
 use Rattle.ax_types.specs.declared.refusals.StoreError.{StoreError}
