@@ -1,5 +1,5 @@
 -- What a call of a reader gives, beside the definition of reading.
-use Rattle.std.specs.Prelude.{◌≡◌, ℕ, Bool, true, false, List, Result, Ok, Err, length, take, drop, nat_lt, nat_eq, ◌||◌, if◌then◌else◌}
+use Rattle.std.specs.Prelude.{◌≡◌, ℕ, Bool, List, Result, Ok, Err, length, take, drop, nat_lt, nat_eq, ◌||◌, if◌then◌else◌}
 use Rattle.spec_reading.specs.Reading as reading
 use Rattle.net_wire.specs.declared.unread.Unread.{Unread}
 use Rattle.net_wire.specs.declared.unread.Unread.TheVariants as unread

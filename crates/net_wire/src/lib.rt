@@ -8,10 +8,5 @@ mod writer;
 
 pub use reader::Reader;
 pub use unread::Unread;
-pub use wire::read;
-pub use wire::read_entry;
-pub use wire::write;
-pub use wire::write_entry;
-pub use writer::put_entry;
-pub use writer::put_payload;
-pub use writer::put_u64;
+pub use wire::{read, read_entry, write, write_entry};
+pub use writer::{put_entry, put_payload, put_u64};

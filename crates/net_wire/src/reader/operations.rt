@@ -3,9 +3,7 @@ ghost use Rattle.net_wire.specs.Given.{Gives};
 
 use super::Reader;
 use crate::Unread;
-use ax_types::{
-    GroupOp, LockOp, LongOp, MapOp, MultimapOp, Op, QueueOp, SetOp, TopicOp, ValueOp,
-};
+use ax_types::{GroupOp, LockOp, LongOp, MapOp, MultimapOp, Op, QueueOp, SetOp, TopicOp, ValueOp};
 
 impl<'a> Reader<'a> {
     #[tactic(auto, unfolding(spec_reading::specs::ReadOperations::map_op_at))]

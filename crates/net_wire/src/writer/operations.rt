@@ -10,12 +10,7 @@ use ax_types::{
     TopicOp, ValueOp,
 };
 
-fn put_put_for(
-    out: &mut Vec<u8>,
-    key: &Key,
-    text: &Text,
-    life: Life,
-) -> Result<(), NoMemory>
+fn put_put_for(out: &mut Vec<u8>, key: &Key, text: &Text, life: Life) -> Result<(), NoMemory>
     ensures bytes { OnOk result (out.new.items ≡ out.old.items ++ 7 ∷ number_bytes.counted_bytes key.now ++ number_bytes.counted_bytes text.now ++ number_bytes.u64_bytes life) }
     ensures fits { OnOk result (ranges.IsName key.now × ranges.IsText text.now × ranges.IsLife life) }
 {
@@ -40,12 +35,7 @@ fn put_map_op(out: &mut Vec<u8>, op: &MapOp) -> Result<(), NoMemory>
     }
 }
 
-fn put_two_texts(
-    out: &mut Vec<u8>,
-    number: u8,
-    one: &Text,
-    other: &Text,
-) -> Result<(), NoMemory>
+fn put_two_texts(out: &mut Vec<u8>, number: u8, one: &Text, other: &Text) -> Result<(), NoMemory>
     ensures bytes { OnOk result (out.new.items ≡ out.old.items ++ number ∷ number_bytes.counted_bytes one.now ++ number_bytes.counted_bytes other.now) }
     ensures fits { OnOk result (ranges.IsText one.now × ranges.IsText other.now) }
 {

@@ -76,12 +76,7 @@ fn put_one_name(out: &mut Vec<u8>, number: u8, name: &Name) -> Result<(), NoMemo
 }
 
 /// A number, a name and a key.
-fn put_name_and_key(
-    out: &mut Vec<u8>,
-    number: u8,
-    name: &Name,
-    key: &Key,
-) -> Result<(), NoMemory>
+fn put_name_and_key(out: &mut Vec<u8>, number: u8, name: &Name, key: &Key) -> Result<(), NoMemory>
     ensures bytes { OnOk result (out.new.items ≡ out.old.items ++ number ∷ number_bytes.counted_bytes name.now ++ number_bytes.counted_bytes key.now) }
     ensures fits { OnOk result (ranges.IsName name.now × ranges.IsName key.now) }
 {
@@ -106,12 +101,7 @@ fn put_name_and_text(
 }
 
 /// A number, a name and another number.
-fn put_name_and_number(
-    out: &mut Vec<u8>,
-    number: u8,
-    name: &Name,
-    a: u64,
-) -> Result<(), NoMemory>
+fn put_name_and_number(out: &mut Vec<u8>, number: u8, name: &Name, a: u64) -> Result<(), NoMemory>
     ensures bytes { OnOk result (out.new.items ≡ out.old.items ++ number ∷ number_bytes.counted_bytes name.now ++ number_bytes.u64_bytes a) }
     ensures fits { OnOk result (ranges.IsName name.now) }
 {
@@ -120,12 +110,7 @@ fn put_name_and_number(
     put_u64(out, a)
 }
 
-fn put_changed(
-    out: &mut Vec<u8>,
-    name: &Name,
-    key: &Key,
-    text: &Text,
-) -> Result<(), NoMemory>
+fn put_changed(out: &mut Vec<u8>, name: &Name, key: &Key, text: &Text) -> Result<(), NoMemory>
     ensures bytes { OnOk result (out.new.items ≡ out.old.items ++ 1 ∷ number_bytes.counted_bytes name.now ++ number_bytes.counted_bytes key.now ++ number_bytes.counted_bytes text.now) }
     ensures fits { OnOk result (ranges.IsName name.now × ranges.IsName key.now × ranges.IsText text.now) }
 {
@@ -135,12 +120,7 @@ fn put_changed(
     put_text(out, text)
 }
 
-fn put_elected(
-    out: &mut Vec<u8>,
-    name: &Name,
-    session: u64,
-    term: u64,
-) -> Result<(), NoMemory>
+fn put_elected(out: &mut Vec<u8>, name: &Name, session: u64, term: u64) -> Result<(), NoMemory>
     ensures bytes { OnOk result (out.new.items ≡ out.old.items ++ 8 ∷ number_bytes.counted_bytes name.now ++ number_bytes.u64_bytes session ++ number_bytes.u64_bytes term) }
     ensures fits { OnOk result (ranges.IsName name.now) }
 {
