@@ -1,5 +1,7 @@
 -- Letters of a form, counted, are such letters one by one; and eight bytes that are padded.
-use Rattle.std.proofs.Common.{◌≡◌, ℕ, ◌≤◌, List, [], ◌∷◌, ◌++◌, length, take, replicate, refl, get_or, arith}
+use Rattle.std.proofs.Common.{◌≡◌, ℕ, ◌≤◌, List, [], ◌∷◌, ◌++◌, length, take, replicate, refl, sym, ap, ◌∙◌, get_or, arith}
+use Rattle.std.proofs.lemmas.List.{take-append-le}
+use Rattle.std.specs.Int.{w64, from_be_bytes}
 use Rattle.std.proofs.lemmas.Grind.{common_steps}
 use Rattle.ax_types.specs.Letters as ax_types_letters
 use Rattle.spec_reading.specs.Reading as reading
@@ -17,6 +19,10 @@ eight_padded byte (a ∷ b ∷ c ∷ d ∷ e ∷ []) = refl
 eight_padded byte (a ∷ b ∷ c ∷ d ∷ e ∷ f ∷ []) = refl
 eight_padded byte (a ∷ b ∷ c ∷ d ∷ e ∷ f ∷ g ∷ []) = refl
 eight_padded byte (a ∷ b ∷ c ∷ d ∷ e ∷ f ∷ g ∷ h ∷ bytes) = refl
+
+-- where no byte lacks, what stands for one that lacks does not count
+pub padded_same : (byte : ℕ) (bytes : List ℕ) → 8 ≤ length bytes → reading.padded_number byte bytes ≡ reading.padded_number 0 bytes
+padded_same byte bytes long = ap (from_be_bytes w64) (take-append-le 8 bytes (replicate 8 byte) long ∙ sym (take-append-le 8 bytes (replicate 8 0) long))
 
 pub name_letters : (count : ℕ) (bytes : List ℕ) → 1 ≤ count → count ≤ 32
     → form_at ax_types_letters.is_name count bytes ≡ reading.letters_at ax_types_letters.is_name_byte count bytes

@@ -1,4 +1,4 @@
-ghost use Rattle.std.specs.Prelude.{◌≡◌, slice_index_or};
+ghost use Rattle.std.specs.Prelude.{◌≡◌, ◌≤◌, IfOk, slice_index_or};
 ghost use Rattle.spec_reading.specs.Reading as reading;
 ghost use Rattle.net_wire.specs.Given.{Gives};
 
@@ -95,9 +95,10 @@ impl<'a> Reader<'a> {
 
     /// A number of eight bytes, from `least` to `most`. Bytes with which no such number begins are wrong, though there
     /// be less than eight.
-    #[tactic(auto, unfolding(spec_reading::specs::Reading::within_at))]
+    #[tactic(auto, using(crate::proofs::Forms::padded_same), unfolding(spec_reading::specs::Reading::within_at))]
     pub fn read_within(&mut self, least: u64, most: u64) -> Result<u64, Unread>
-        ensures { Gives result self.new (reading.within_at least most self.old) }
+        ensures number { Gives result self.new (reading.within_at least most self.old) }
+        ensures within { IfOk result (λ number. (least ≤ number) × (number ≤ most)) }
     {
         let number = padded_number(0, self.rest);
         if padded_number(255, self.rest) < least || most < number {
