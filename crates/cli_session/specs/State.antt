@@ -1,18 +1,18 @@
 -- What contracts see of a client.
-use Rattle.std.specs.Prelude.{ℕ, Bool}
+use Rattle.std.specs.Prelude.{ℕ, suc, Bool}
 use Rattle.spec_client.specs.Clients as clients
 
 -- the client of the definitions, and how many times its switch was moved
-pub record PartsState : Type 0 where
+pub record MovedClient : Type 0 where
   pub client : clients.Client
   pub moves : ℕ
 
 -- the client of the definitions, how many calls changed it, and whether want of memory has left one of them half done
-pub record SessionState : Type 0 where
+pub record CountedClient : Type 0 where
   pub client : clients.Client
   pub changes : ℕ
   pub is_spent : Bool
 
--- a client after one more call
-abbrev pub changed_to : SessionState → clients.Client → SessionState
+-- a client that one more call has changed
+abbrev pub changed_to : CountedClient → clients.Client → CountedClient
 changed_to s c = record s { client = c; changes = suc s.changes }

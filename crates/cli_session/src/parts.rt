@@ -32,7 +32,7 @@ pub struct Parts {
 impl Model for Parts {
     ghost use Rattle.cli_session.specs.State as states;
 
-    ghost Value = { states.PartsState };
+    ghost Value = { states.MovedClient };
 
     ghost view = { λ a. record { client = record { me = a.me; state = a.state; switch = a.switch.switch; calls = a.calls; commands = a.commands; sequencer = a.sequencer; requests = a.requests.items }; moves = a.switch.calls } };
 }
@@ -146,13 +146,21 @@ impl Parts {
         }
     }
 
+    /// Whether a request's call lacks an answer.
+    fn lacks_answer(&self, request: &Request) -> bool
+        ensures { result ≡ clients.lacks_answer self.now.client.sequencer.calls request.now.number }
+    {
+        self.sequencer.lacks_answer(request.number)
+    }
+
+    #[tactic(auto, using(crate::proofs::Sent::open_push))]
     /// What is sent for the calls that lack an answer, in order, after other payloads.
     fn with_open_requests(&self, payloads: Vec<Payload>) -> Result<Vec<Payload>, NoMemory>
         ensures { IfOk result (λ all. all.items ≡ payloads.items ++ map (clients.payload_of self.now.client) (clients.open_requests self.now.client)) }
     {
         let mut payloads = payloads;
-        'requests: for request in &self.requests {
-            if self.sequencer.lacks_answer(request.number) {
+        'requests: for request in self.requests.iter() {
+            if self.lacks_answer(request) {
                 payloads.push(self.payload_of(request)?)?;
             }
         }
@@ -176,13 +184,14 @@ impl Parts {
         Ok(payloads)
     }
 
+    #[tactic(auto, using(crate::proofs::Sent::gap_push))]
     /// The commands above the last one that the session state knows, in order.
     pub fn gap(&self, last: u64) -> Result<Vec<Payload>, NoMemory>
         ensures { IfOk result (λ payloads. payloads.items ≡ receipts.gap_of self.now.client last) }
     {
         let mut payloads = Vec::new(self.alloc);
-        'requests: for request in &self.requests {
-            if request.is_command_above(last) && self.sequencer.lacks_answer(request.number) {
+        'requests: for request in self.requests.iter() {
+            if self.lacks_answer(request) && request.is_command_above(last) {
                 payloads.push(self.payload_of(request)?)?;
             }
         }

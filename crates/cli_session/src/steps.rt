@@ -18,18 +18,14 @@ impl Parts {
         ensures after { OnOk result (self.new ≡ record { client = (clients.opens self.old.client node).client; moves = self.old.moves + 2 }) }
         ensures err { OnErr result (self.new ≡ self.old) }
     {
-        let mut sends = List::with_capacity(self.alloc, 1)?;
-        let payload = Payload::Register {
-            client: self.me,
-            opening: self.switch.opening() + 1,
-        };
-        sends.push((node, payload))?;
+        let mut sends = Vec::with_capacity(self.alloc, 1)?;
         self.switch.move_to(node);
         self.switch.next_opening();
         self.state = ClientState::Opening;
+        sends.push_reserved((node, self.register()));
         Ok(ClientOut {
             items: List::new(self.alloc),
-            sends,
+            sends: List::from_vec(sends),
         })
     }
 
