@@ -1,0 +1,5 @@
+//! Tests of a client, beside its contracts.
+#![tactic(auto)]
+
+#[cfg(test)]
+mod sessions;
