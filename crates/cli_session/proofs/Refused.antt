@@ -31,6 +31,9 @@ pub reason_none : (o : Option SkipReason) → refusals.refusal_by o ≡ None →
 reason_none None is = refl
 reason_none (Some r) is = absurd (cc)
 
+pub room_by : (c : clients.Client) → refusals.refusal_by (clients.call_refusal c) ≡ None → length c.sequencer.calls < sequencers.most_unanswered
+room_by c free = room_free c (reason_none (clients.call_refusal c) free)
+
 -- nothing is sent where there is nothing to send
 pub to_server_none : (c : clients.Client) → clients.to_server c [] ≡ []
 to_server_none c = by_server c.switch.server

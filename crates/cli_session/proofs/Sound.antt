@@ -1,5 +1,5 @@
 -- What holds of a client between its calls holds after each.
-use Rattle.std.proofs.Common.{◌≡◌, ℕ, suc, ◌<◌, ◌≤◌, Bool, true, false, cond, List, [], ◌∷◌, ◌++◌, Option, Some, None, refl, sym, ap, ◌∙◌, arith}
+use Rattle.std.proofs.Common.{◌≡◌, ℕ, suc, ◌+◌, ◌^◌, ◌<◌, ◌≤◌, add-one, Bool, true, false, cond, List, [], ◌∷◌, ◌++◌, Option, Some, None, refl, sym, ap, ◌∙◌, arith}
 use Rattle.std.specs.Prelude.{if◌then◌else◌, is_some, not, nat_eq, ◌&&◌}
 use Rattle.ax_types.specs.declared.entries.Batch.{Batch}
 use Rattle.ax_types.specs.declared.items.Item.{Item}
@@ -18,6 +18,7 @@ use Rattle.spec_client.specs.Clients as clients
 use Rattle.spec_client.specs.Receipts as receipts
 use Rattle.cli_session.specs.Given as given
 use Rattle.cli_session.specs.Numbered as numbered
+use Rattle.cli_session.specs.State as states
 use Rattle.cli_session.proofs.Numbers.{AreNumbered-push, AreNumbered-raised, AreNumbered-answered}
 use Rattle.cli_session.proofs.Release.{sound_releases}
 
@@ -43,6 +44,10 @@ counted_unsent c n is = record {
   calls = omega (arith, is.calls);
   commands = omega (arith, is.commands);
 }
+
+pub kept_unsent : (p : states.MovedClient) (n : ℕ) (is_spent : Bool) → n < 2 ^ 32 → numbered.IsKept p n is_spent → numbered.IsKept (record p { client = clients.unsent p.client }) (n + 1) is_spent
+kept_unsent p n is_spent room is =
+    rw (add-one n) (record { within = omega (arith, room); moves = omega (arith, is.moves); counted = λ e. counted_unsent p.client n (is.counted e) })
 
 pub counted_makes_call : (c : clients.Client) (name : List ℕ) (o : Op) (n : ℕ) → numbered.IsCounted c n → numbered.IsCounted (clients.makes_call c name o).client (suc n)
 counted_makes_call c name o n is = record {

@@ -72,6 +72,7 @@ impl Client {
         Ok(out)
     }
 
+    #[tactic(auto, using(crate::proofs::Sound::counted_makes_call, crate::proofs::Refused::room_by))]
     /// Calls a command: `NoSession` exactly where no session is open, `WindowFull` exactly where as many calls of it as
     /// may be are unanswered. The client is unchanged after a refusal.
     pub fn call(&mut self, name: &Name, op: &Op) -> Result<ClientOut, ClientRefused>
@@ -91,6 +92,7 @@ impl Client {
         Ok(out)
     }
 
+    #[tactic(auto, using(crate::proofs::Sound::counted_queries, crate::proofs::Refused::room_by))]
     /// Calls a query, at a level (Ongaro 2014, 6.4): refused as a command is. The client is unchanged after a refusal.
     pub fn query(
         &mut self,
@@ -182,11 +184,12 @@ impl Client {
         ensures number { result ≡ clients.unsent_number self.old.client }
         ensures after { self.new ≡ states.changed_to self.old (clients.unsent self.old.client) }
     {
-        self.parts.calls += 1;
+        let number = self.parts.unsent();
         self.changes += 1;
-        self.parts.calls
+        number
     }
 
+    #[tactic(auto, using(crate::proofs::Sound::counted_received))]
     /// A payload from a node: it is taken, or ignored. After want of memory the client is spent.
     pub fn receive(&mut self, from: NodeId, payload: &Payload) -> Result<ClientOut, NoMemory>
         requires whole { self.old.is_spent ≡ false }

@@ -117,6 +117,16 @@ impl Parts {
         Ok(())
     }
 
+    /// A call is not sent, since the session has ended: the number that it uses up.
+    pub fn unsent(&mut self) -> u64
+        requires { self.old.client.calls < 2 ^ 63 }
+        ensures number { result ≡ clients.unsent_number self.old.client }
+        ensures after { self.new ≡ record self.old { client = clients.unsent self.old.client } }
+    {
+        self.calls += 1;
+        self.calls
+    }
+
     /// A sign of life, which says what the client has (Ongaro 2014, 6.3).
     pub fn keep(&self) -> Result<ClientOut, NoMemory>
         ensures { IfOk result (λ out. out ≡ (clients.keeps self.now.client).out) }
