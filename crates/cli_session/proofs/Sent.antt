@@ -1,5 +1,5 @@
 -- One more request, and one more answer.
-use Rattle.std.proofs.Common.{◌≡◌, ℕ, Bool, true, false, cond, List, [], ◌∷◌, ◌++◌, refl, sym, ap, ◌∙◌, map}
+use Rattle.std.proofs.Common.{◌≡◌, ℕ, Bool, true, false, cond, List, [], ◌∷◌, ◌++◌, refl, sym, ap, ◌∙◌, map, append_assoc}
 use Rattle.std.specs.Prelude.{if◌then◌else◌, ◌&&◌, filter}
 use Rattle.ax_types.specs.declared.items.Item.{Item}
 use Rattle.ax_types.specs.declared.packets.Payload.{Payload}
@@ -79,3 +79,16 @@ pub left_push : (gots : List (ℕ × Got)) (g : ℕ × Got) (rs : List clients.R
 left_push [] g rs = refl
 left_push (h ∷ gots) g [] = refl
 left_push (h ∷ gots) g (r ∷ rs) = left_push gots g rs
+
+-- one more answer is given out
+pub given_step : (session : ℕ) (first before now : List Item) (gots : List (ℕ × Got)) (g : ℕ × Got) (rs mid new : List clients.Request)
+    → before ≡ first ++ given.given_out session gots rs → mid ≡ given.left_after gots rs
+    → now ≡ before ++ given.given_out session (g ∷ []) mid → new ≡ given.left_after (g ∷ []) mid
+    → (now ≡ first ++ given.given_out session (gots ++ g ∷ []) rs) × (new ≡ given.left_after (gots ++ g ∷ []) rs)
+given_step session first before now gots g rs mid new so_far left one left_one =
+    (one
+    ∙ ap (λ (xs : List Item). xs ++ given.given_out session (g ∷ []) mid) so_far
+    ∙ append_assoc first (given.given_out session gots rs) (given.given_out session (g ∷ []) mid)
+    ∙ ap (λ (ms : List clients.Request). first ++ (given.given_out session gots rs ++ given.given_out session (g ∷ []) ms)) left
+    ∙ ap (λ (xs : List Item). first ++ xs) (sym (given_push session gots g rs)),
+    left_one ∙ ap (given.left_after (g ∷ [])) left ∙ sym (left_push gots g rs))

@@ -1,5 +1,5 @@
 -- What holds of a client between its calls holds after each.
-use Rattle.std.proofs.Common.{◌≡◌, ℕ, suc, ◌+◌, ◌^◌, ◌<◌, ◌≤◌, add-one, Bool, true, false, cond, List, [], ◌∷◌, ◌++◌, Option, Some, None, refl, sym, ap, ◌∙◌, arith}
+use Rattle.std.proofs.Common.{◌≡◌, ℕ, suc, ◌+◌, ◌^◌, ◌<◌, ◌≤◌, add-one, Bool, true, false, cond, List, [], ◌∷◌, ◌++◌, Option, Some, None, refl, sym, subst, ap, ◌∙◌, arith}
 use Rattle.std.specs.Prelude.{if◌then◌else◌, is_some, not, nat_eq, ◌&&◌}
 use Rattle.ax_types.specs.declared.entries.Batch.{Batch}
 use Rattle.ax_types.specs.declared.items.Item.{Item}
@@ -62,6 +62,16 @@ counted_queries c l name q n is = record {
   calls = omega (arith, is.calls);
   commands = omega (arith, is.commands);
 }
+
+pub kept_makes_call : (p : states.MovedClient) (name : List ℕ) (o : Op) (n : ℕ) (is_spent : Bool) → n < 2 ^ 32 → numbered.IsKept p n is_spent
+    → numbered.IsKept (record p { client = (clients.makes_call p.client name o).client }) (n + 1) is_spent
+kept_makes_call p name o n is_spent room is =
+    rw (add-one n) (record { within = omega (arith, room); moves = omega (arith, is.moves); counted = λ e. counted_makes_call p.client name o n (is.counted e) })
+
+pub kept_queries : (p : states.MovedClient) (l : Level) (name : List ℕ) (q : Query) (n : ℕ) (is_spent : Bool) → n < 2 ^ 32 → numbered.IsKept p n is_spent
+    → numbered.IsKept (record p { client = (clients.queries p.client l name q).client }) (n + 1) is_spent
+kept_queries p l name q n is_spent room is =
+    rw (add-one n) (record { within = omega (arith, room); moves = omega (arith, is.moves); counted = λ e. counted_queries p.client l name q n (is.counted e) })
 
 -- receipts
 counted_releases : (c : clients.Client) (first : List Item) (n : ℕ) → numbered.IsCounted c n → numbered.IsCounted (receipts.releases c first).client n
@@ -139,3 +149,12 @@ counted_receives c node (payload.Ended session place h) n is =
 
 pub counted_received : (c : clients.Client) (node : ℕ) (p : Payload) (n : ℕ) → numbered.IsCounted c n → numbered.IsCounted (receipts.receives c node p).client (suc n)
 counted_received c node p n is = counted_more _ n (counted_receives c node p n is)
+
+pub kept_received : (p q : states.MovedClient) (node : ℕ) (pl : Payload) (n : ℕ) (is_spent : Bool) → n < 2 ^ 32 → is_spent ≡ false → numbered.IsKept p n is_spent
+    → q.client ≡ (receipts.receives p.client node pl).client → q.moves ≤ suc p.moves → numbered.IsKept q (n + 1) false
+kept_received p q node pl n is_spent room whole is same moved =
+    rw (add-one n) (record {
+      within = omega (arith, room);
+      moves = omega (arith, is.moves, moved);
+      counted = λ e. subst (λ (d : clients.Client). numbered.IsCounted d (suc n)) (sym same) (counted_received p.client node pl n (is.counted whole));
+    })

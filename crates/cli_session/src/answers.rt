@@ -27,7 +27,6 @@ fn give_one(
     Ok(())
 }
 
-#[tactic(auto, using(crate::proofs::Sent::given_push, crate::proofs::Sent::left_push))]
 /// Answers are given out, each with the first request that is left, after other items.
 fn give_out(
     requests: &mut VecDeque<Request>,

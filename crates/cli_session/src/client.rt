@@ -72,7 +72,7 @@ impl Client {
         Ok(out)
     }
 
-    #[tactic(auto, using(crate::proofs::Sound::counted_makes_call, crate::proofs::Refused::room_by))]
+    #[tactic(auto, using(crate::proofs::Refused::room_by))]
     /// Calls a command: `NoSession` exactly where no session is open, `WindowFull` exactly where as many calls of it as
     /// may be are unanswered. The client is unchanged after a refusal.
     pub fn call(&mut self, name: &Name, op: &Op) -> Result<ClientOut, ClientRefused>
@@ -92,7 +92,7 @@ impl Client {
         Ok(out)
     }
 
-    #[tactic(auto, using(crate::proofs::Sound::counted_queries, crate::proofs::Refused::room_by))]
+    #[tactic(auto, using(crate::proofs::Refused::room_by))]
     /// Calls a query, at a level (Ongaro 2014, 6.4): refused as a command is. The client is unchanged after a refusal.
     pub fn query(
         &mut self,
@@ -189,7 +189,6 @@ impl Client {
         number
     }
 
-    #[tactic(auto, using(crate::proofs::Sound::counted_received))]
     /// A payload from a node: it is taken, or ignored. After want of memory the client is spent.
     pub fn receive(&mut self, from: NodeId, payload: &Payload) -> Result<ClientOut, NoMemory>
         requires whole { self.old.is_spent ≡ false }

@@ -6,7 +6,7 @@ ghost use Rattle.spec_sequencer.specs.Sequencers as sequencers;
 
 use crate::requests::Request;
 use crate::states::{is_closing, is_joined, is_opening, own_session};
-use ax_types::{ClientId, ClientState, Duplicate, Item, List, NoMemory, NodeId, Payload, WindowCall};
+use ax_types::{ClientId, ClientState, Duplicate, List, NoMemory, NodeId, Payload, WindowCall};
 use cli_sequencer::Sequencer;
 use server_switch::Switch;
 use std::alloc::Global;
@@ -202,7 +202,9 @@ impl Parts {
     pub fn request(&self, number: u64) -> Option<&Request>
         ensures { option_copied result ≡ receipts.request self.now.client.requests number }
     {
-        self.requests.iter().find(|request| request.number() == number)
+        self.requests
+            .iter()
+            .find(|request| request.number() == number)
     }
 }
 

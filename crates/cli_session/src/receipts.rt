@@ -257,12 +257,7 @@ impl Parts {
     }
 
     /// A batch of events is told, and what waited for it is given out.
-    fn tell(
-        &mut self,
-        place: u64,
-        prev: u64,
-        events: List<Event>,
-    ) -> Result<ClientOut, NoMemory>
+    fn tell(&mut self, place: u64, prev: u64, events: List<Event>) -> Result<ClientOut, NoMemory>
         requires { numbered.IsSound self.old.client }
         ensures ok { IfOk result (λ out. out ≡ (receipts.releases self.old.client (item.Event (clients.own_session self.old.client.state) place prev events ∷ [])).out) }
         ensures after { OnOk result (self.new.client ≡ (receipts.releases self.old.client (item.Event (clients.own_session self.old.client.state) place prev events ∷ [])).client) }
