@@ -85,10 +85,11 @@ pub given_step : (session : ℕ) (first before now : List Item) (gots : List (�
     → before ≡ first ++ given.given_out session gots rs → mid ≡ given.left_after gots rs
     → now ≡ before ++ given.given_out session (g ∷ []) mid → new ≡ given.left_after (g ∷ []) mid
     → (now ≡ first ++ given.given_out session (gots ++ g ∷ []) rs) × (new ≡ given.left_after (gots ++ g ∷ []) rs)
-given_step session first before now gots g rs mid new so_far left one left_one =
-    (one
-    ∙ ap (λ (xs : List Item). xs ++ given.given_out session (g ∷ []) mid) so_far
-    ∙ append_assoc first (given.given_out session gots rs) (given.given_out session (g ∷ []) mid)
-    ∙ ap (λ (ms : List clients.Request). first ++ (given.given_out session gots rs ++ given.given_out session (g ∷ []) ms)) left
-    ∙ ap (λ (xs : List Item). first ++ xs) (sym (given_push session gots g rs)),
-    left_one ∙ ap (given.left_after (g ∷ [])) left ∙ sym (left_push gots g rs))
+given_step session first before now gots g rs mid new so_far left one left_one = (
+  one
+      ∙ ap (λ (xs : List Item). xs ++ given.given_out session (g ∷ []) mid) so_far
+      ∙ append_assoc first (given.given_out session gots rs) (given.given_out session (g ∷ []) mid)
+      ∙ ap (λ (ms : List clients.Request). first ++ (given.given_out session gots rs ++ given.given_out session (g ∷ []) ms)) left
+      ∙ ap (λ (xs : List Item). first ++ xs) (sym (given_push session gots g rs)),
+  left_one ∙ ap (given.left_after (g ∷ [])) left ∙ sym (left_push gots g rs),
+)

@@ -10,9 +10,9 @@ pub record MovedClient : Type 0 where
 -- the client of the definitions, how many calls changed it, and whether want of memory has left one of them half done
 pub record CountedClient : Type 0 where
   pub client : clients.Client
-  pub changes : ℕ
+  pub calls : ℕ
   pub is_spent : Bool
 
 -- a client that one more call has changed
 abbrev pub changed_to : CountedClient → clients.Client → CountedClient
-changed_to s c = record s { client = c; changes = suc s.changes }
+changed_to s c = record s { client = c; calls = suc s.calls }

@@ -19,7 +19,7 @@ use std::marker::Model;
 #[derive(Drop)]
 pub struct Client {
     parts: Parts,
-    changes: u64,
+    calls: u64,
     is_spent: bool,
 }
 
@@ -29,19 +29,19 @@ impl Model for Client {
 
     ghost Value = { states.CountedClient };
 
-    ghost view = { λ a. record { client = a.parts.client; changes = a.changes; is_spent = a.is_spent } };
+    ghost view = { λ a. record { client = a.parts.client; calls = a.calls; is_spent = a.is_spent } };
 
-    ghost invariant = { λ a. numbered.IsKept a.parts a.changes a.is_spent };
+    ghost invariant = { λ a. numbered.IsKept a.parts a.calls a.is_spent };
 }
 
 impl Client {
     /// A client that has no session yet. It takes no memory.
     pub fn new(alloc: Global, me: ClientId) -> Self
-        ensures { result ≡ record { client = clients.new_client me; changes = 0; is_spent = false } }
+        ensures { result ≡ record { client = clients.new_client me; calls = 0; is_spent = false } }
     {
         Client {
             parts: Parts::new(alloc, me),
-            changes: 0,
+            calls: 0,
             is_spent: false,
         }
     }
@@ -57,7 +57,7 @@ impl Client {
     /// after a refusal.
     pub fn open(&mut self, node: NodeId) -> Result<ClientOut, ClientRefused>
         requires whole { self.old.is_spent ≡ false }
-        requires room { self.old.changes < 2 ^ 32 }
+        requires room { self.old.calls < 2 ^ 32 }
         ensures ok { IfOk result (λ out. out ≡ (clients.opens self.old.client node).out) }
         ensures after { OnOk result (self.new ≡ states.changed_to self.old (clients.opens self.old.client node).client) }
         ensures free { OnOk result (clients.open_refusal self.old.client ≡ None) }
@@ -68,7 +68,7 @@ impl Client {
             return Err(refusal);
         }
         let out = self.parts.open(node)?;
-        self.changes += 1;
+        self.calls += 1;
         Ok(out)
     }
 
@@ -77,7 +77,7 @@ impl Client {
     /// may be are unanswered. The client is unchanged after a refusal.
     pub fn call(&mut self, name: &Name, op: &Op) -> Result<ClientOut, ClientRefused>
         requires whole { self.old.is_spent ≡ false }
-        requires room { self.old.changes < 2 ^ 32 }
+        requires room { self.old.calls < 2 ^ 32 }
         ensures ok { IfOk result (λ out. out ≡ (clients.makes_call self.old.client name.now op.now).out) }
         ensures after { OnOk result (self.new ≡ states.changed_to self.old (clients.makes_call self.old.client name.now op.now).client) }
         ensures free { OnOk result (clients.call_refusal self.old.client ≡ None) }
@@ -88,7 +88,7 @@ impl Client {
             return Err(refusal);
         }
         let out = self.parts.call(name, op)?;
-        self.changes += 1;
+        self.calls += 1;
         Ok(out)
     }
 
@@ -101,7 +101,7 @@ impl Client {
         query: &Query,
     ) -> Result<ClientOut, ClientRefused>
         requires whole { self.old.is_spent ≡ false }
-        requires room { self.old.changes < 2 ^ 32 }
+        requires room { self.old.calls < 2 ^ 32 }
         ensures ok { IfOk result (λ out. out ≡ (clients.queries self.old.client level name.now query.now).out) }
         ensures after { OnOk result (self.new ≡ states.changed_to self.old (clients.queries self.old.client level name.now query.now).client) }
         ensures free { OnOk result (clients.call_refusal self.old.client ≡ None) }
@@ -112,7 +112,7 @@ impl Client {
             return Err(refusal);
         }
         let out = self.parts.query(level, name, query)?;
-        self.changes += 1;
+        self.calls += 1;
         Ok(out)
     }
 
@@ -120,7 +120,7 @@ impl Client {
     /// client is unchanged after a refusal.
     pub fn close(&mut self) -> Result<ClientOut, ClientRefused>
         requires whole { self.old.is_spent ≡ false }
-        requires room { self.old.changes < 2 ^ 32 }
+        requires room { self.old.calls < 2 ^ 32 }
         ensures ok { IfOk result (λ out. out ≡ (clients.closes self.old.client).out) }
         ensures after { OnOk result (self.new ≡ states.changed_to self.old (clients.closes self.old.client).client) }
         ensures free { OnOk result (clients.close_refusal self.old.client ≡ None) }
@@ -131,7 +131,7 @@ impl Client {
             return Err(refusal);
         }
         let out = self.parts.close()?;
-        self.changes += 1;
+        self.calls += 1;
         Ok(out)
     }
 
@@ -165,40 +165,40 @@ impl Client {
     /// unchanged then.
     pub fn switch(&mut self, node: NodeId) -> Result<ClientOut, ClientRefused>
         requires whole { self.old.is_spent ≡ false }
-        requires room { self.old.changes < 2 ^ 32 }
+        requires room { self.old.calls < 2 ^ 32 }
         ensures ok { IfOk result (λ out. out ≡ (clients.switches self.old.client node).out) }
         ensures after { OnOk result (self.new ≡ states.changed_to self.old (clients.switches self.old.client node).client) }
         ensures refused { IfErr result (λ e. e ≡ refused.NoMemory) }
         ensures err { OnErr result (self.new ≡ self.old) }
     {
         let out = self.parts.move_to(node)?;
-        self.changes += 1;
+        self.calls += 1;
         Ok(out)
     }
 
     /// The number of a call at a client whose session has ended, which is used up.
     pub fn unsent(&mut self) -> u64
         requires whole { self.old.is_spent ≡ false }
-        requires room { self.old.changes < 2 ^ 32 }
+        requires room { self.old.calls < 2 ^ 32 }
         requires ended { clients.has_ended self.old.client.state ≡ true }
         ensures number { result ≡ clients.unsent_number self.old.client }
         ensures after { self.new ≡ states.changed_to self.old (clients.unsent self.old.client) }
     {
         let number = self.parts.unsent();
-        self.changes += 1;
+        self.calls += 1;
         number
     }
 
     /// A payload from a node: it is taken, or ignored. After want of memory the client is spent.
     pub fn receive(&mut self, from: NodeId, payload: &Payload) -> Result<ClientOut, NoMemory>
         requires whole { self.old.is_spent ≡ false }
-        requires room { self.old.changes < 2 ^ 32 }
+        requires room { self.old.calls < 2 ^ 32 }
         ensures ok { IfOk result (λ out. out ≡ (receipts.receives self.old.client from payload.now).out) }
         ensures after { OnOk result (self.new ≡ states.changed_to self.old (receipts.receives self.old.client from payload.now).client) }
         ensures err { OnErr result (self.new.is_spent ≡ true) }
     {
         self.is_spent = true;
-        self.changes += 1;
+        self.calls += 1;
         let out = self.parts.receive(from, payload)?;
         self.is_spent = false;
         Ok(out)

@@ -7,6 +7,6 @@ use Rattle.cli_session.proofs.client.Client.call.Goals as goal
 
 pub invariant_of-self-2 : goal.invariant_of-self-2
 invariant_of-self-2 c =
-    let room : c.self.inside.changes < 2 ^ 32 = subst (λ (s : states.CountedClient). s.changes < 2 ^ 32) (sym c.self.view_is) c.requires.room in
-    subst (λ (m : states.MovedClient). numbered.IsKept m (c.self.inside.changes + 1) c.self.inside.is_spent) (sym c.in_ok-out.ensures.after)
-    (kept_makes_call c.self.inside.parts c.args.name.now c.args.op.now c.self.inside.changes c.self.inside.is_spent room c.self.invariant)
+    let room : c.self.inside.calls < 2 ^ 32 = subst (λ (s : states.CountedClient). s.calls < 2 ^ 32) (sym c.self.view_is) c.requires.room in
+    subst (λ (m : states.MovedClient). numbered.IsKept m (c.self.inside.calls + 1) c.self.inside.is_spent) (sym c.in_ok-out.ensures.after)
+    (kept_makes_call c.self.inside.parts c.args.name.now c.args.op.now c.self.inside.calls c.self.inside.is_spent room c.self.invariant)
