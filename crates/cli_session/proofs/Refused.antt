@@ -1,10 +1,9 @@
 -- What refuses a call, and answers that nothing waits for.
-use Rattle.std.proofs.Common.{◌≡◌, ℕ, ◌<◌, Bool, true, false, List, [], ◌∷◌, Option, Some, None, refl, arith, length}
+use Rattle.std.proofs.Common.{◌≡◌, ℕ, ◌<◌, Bool, true, false, [], Option, Some, None, refl, arith, length}
 use Rattle.std.specs.Prelude.{if◌then◌else◌, is_some, not, nat_le}
 use Rattle.std.proofs.lemmas.Bool.Decides.{nat_tests}
 use Rattle.ax_types.specs.declared.items.SkipReason.{SkipReason}
 use Rattle.ax_types.specs.declared.items.SkipReason.TheVariants as reason
-use Rattle.ax_types.specs.declared.packets.Payload.{Payload}
 use Rattle.ax_types.specs.declared.sessions.Got.{Got}
 use Rattle.spec_sequencer.specs.Sequencers as sequencers
 use Rattle.spec_client.specs.Clients as clients

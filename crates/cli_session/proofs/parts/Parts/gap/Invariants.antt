@@ -1,5 +1,5 @@
 -- What is sent for the requests so far.
-use Rattle.std.proofs.Common.{◌≡◌, ◌++◌, map}
+use Rattle.std.proofs.Common.{◌≡◌, map}
 use Rattle.std.specs.Map.Iter.{deref}
 use Rattle.cli_session.specs.Given as given
 use Rattle.cli_session.proofs.parts.Parts.gap.Given as goal
