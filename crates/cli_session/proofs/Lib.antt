@@ -1,0 +1,5 @@
+pub mod Numbers
+pub mod Refused
+pub mod Release
+pub mod Sent
+pub mod Sound

@@ -1,0 +1,4 @@
+pub mod Given
+pub mod Numbered
+pub mod Refusals
+pub mod State
