@@ -3,7 +3,7 @@ use Rattle.std.proofs.Common.{◌≡◌, ℕ, suc, ◌-◌, Bool, true, false, m
 use Rattle.std.specs.Prelude.{if◌then◌else◌, find, ◌&&◌, not}
 use Rattle.ax_types.specs.declared.sessions.Got.{Got}
 use Rattle.spec_sequencer.specs.Sequencers as sequencers
-use Rattle.cli_sequencer.specs.Given as given
+use Rattle.cli_sequencer.specs.GivenOut as given
 
 -- where no answer is given out, a release has none
 none_given : (heard seen read : ℕ) (us : List sequencers.Unanswered) → given.given_in heard read us ≡ 0 → (sequencers.release_from heard seen read us).items ≡ []

@@ -1,3 +1,3 @@
 pub mod Numbers
-pub mod Given
+pub mod GivenOut
 pub mod Waiting

@@ -2,7 +2,7 @@ ghost use Rattle.std.specs.Prelude.{◌≡◌, ℕ, suc, ◌<◌, length, [], If
 ghost use Rattle.spec_sequencer.specs.Sequencers as sequencers;
 ghost use Rattle.spec_client.specs.Clients as clients;
 ghost use Rattle.cli_sequencer.specs.Numbers as numbers;
-ghost use Rattle.cli_sequencer.specs.Given as given;
+ghost use Rattle.cli_sequencer.specs.GivenOut as given;
 ghost use Rattle.cli_sequencer.specs.Waiting as waiting;
 
 use crate::unanswered::{Unanswered, answer_at, call_at, command_at, first_open_command, query_at};

@@ -4,7 +4,7 @@ ghost use Rattle.spec_sequencer.specs.Sequencers as sequencers;
 ghost use Rattle.spec_client.specs.Clients as clients;
 ghost use Rattle.spec_client.specs.Receipts as receipts;
 ghost use Rattle.cli_sequencer.specs.Numbers as numbers;
-ghost use Rattle.cli_sequencer.specs.Given as given;
+ghost use Rattle.cli_sequencer.specs.GivenOut as given;
 
 use ax_types::{Got, Level};
 use std::collections::VecDeque;
@@ -82,7 +82,7 @@ impl Unanswered {
     /// Whether the call's answer is given out where the call is the first: its events are heard, and it is no read older
     /// than the last one.
     pub fn is_given(&self, heard: u64, read: u64) -> bool
-        ensures { result ≡ given.is_given heard read self.now }
+        ensures { result ≡ given.is_given_out heard read self.now }
     {
         match &self.got {
             None => false,

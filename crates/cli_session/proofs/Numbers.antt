@@ -6,7 +6,7 @@ use Rattle.spec_sequencer.specs.Sequencers as sequencers
 use Rattle.spec_client.specs.Clients as clients
 use Rattle.spec_client.specs.Receipts as receipts
 use Rattle.cli_sequencer.specs.Numbers as numbers
-use Rattle.cli_session.specs.Given as given
+use Rattle.cli_session.specs.GivingOut as giving
 use Rattle.cli_session.specs.Numbered as numbered
 
 -- every number is below one above the last call
@@ -31,7 +31,7 @@ AreNumbered-raised low (u ∷ us) (r ∷ rs) high top up is = (is.0, is.1, is.2,
 
 -- a new call with its request
 pub AreNumbered-push : (low : ℕ) (us : List sequencers.Unanswered) (rs : List clients.Request) (high : ℕ) (u : sequencers.Unanswered) (r : clients.Request)
-    → u.number ≡ suc high → r.number ≡ suc high → given.is_query_call r.call ≡ sequencers.is_query u
+    → u.number ≡ suc high → r.number ≡ suc high → giving.is_query_call r.call ≡ sequencers.is_query u
     → numbered.AreNumbered low us rs high → numbered.AreNumbered low (us ++ u ∷ []) (rs ++ r ∷ []) (suc high)
 AreNumbered-push low [] [] high u r un rn kind is =
     (omega arith, rn ∙ sym un, kind, omega arith)
@@ -64,7 +64,7 @@ AreNumbered-answered low (u ∷ us) (r ∷ rs) high n g is =
 
 -- what becomes of requests at the end is what becomes of their calls
 pub outcomes_at_end : (session low : ℕ) (us : List sequencers.Unanswered) (rs : List clients.Request) (high : ℕ) → numbered.AreNumbered low us rs high
-    → map (given.outcome_at_end session) rs ≡ map (receipts.outcome_at_end session) us
+    → map (giving.item_at_end session) rs ≡ map (receipts.outcome_at_end session) us
 outcomes_at_end session low [] [] high is = refl
 outcomes_at_end session low [] (r ∷ rs) high is = absurd is
 outcomes_at_end session low (u ∷ us) [] high is = absurd is
@@ -76,5 +76,5 @@ pub calls_below : (c : clients.Client) → numbered.IsSound c → numbers.AreBel
 calls_below c sound = AreNumbered-below 0 c.sequencer.calls c.requests c.calls sound.numbered
 
 -- what is shown at the end is what becomes of the calls
-pub outcomes_of : (c : clients.Client) (session : ℕ) → numbered.IsSound c → map (given.outcome_at_end session) c.requests ≡ map (receipts.outcome_at_end session) c.sequencer.calls
+pub outcomes_of : (c : clients.Client) (session : ℕ) → numbered.IsSound c → map (giving.item_at_end session) c.requests ≡ map (receipts.outcome_at_end session) c.sequencer.calls
 outcomes_of c session sound = outcomes_at_end session 0 c.sequencer.calls c.requests c.calls sound.numbered

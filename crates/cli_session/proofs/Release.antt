@@ -7,7 +7,7 @@ use Rattle.ax_types.specs.declared.sessions.Got.{Got}
 use Rattle.spec_sequencer.specs.Sequencers as sequencers
 use Rattle.spec_client.specs.Clients as clients
 use Rattle.spec_client.specs.Receipts as receipts
-use Rattle.cli_session.specs.Given as given
+use Rattle.cli_session.specs.GivingOut as giving
 use Rattle.cli_session.specs.Numbered as numbered
 
 -- answers and then the calls that are left, by the numbers of the requests
@@ -96,7 +96,7 @@ items_skip c r rs (g ∷ gots) above =
 
 -- the items of a release
 items_in_order : (c : clients.Client) (low : ℕ) (gots : List (ℕ × Got)) (left : List sequencers.Unanswered) (rs : List clients.Request) (high : ℕ) → IsSplit low gots left rs high
-    → receipts.items_of (record c { requests = rs }) gots ≡ given.given_out (clients.own_session c.state) gots rs
+    → receipts.items_of (record c { requests = rs }) gots ≡ giving.given_out (clients.own_session c.state) gots rs
 items_in_order c low [] left rs high is = refl
 items_in_order c low (g ∷ gots) left [] high is = absurd is
 items_in_order c low (g ∷ gots) left (r ∷ rs) high is =
@@ -131,7 +131,7 @@ left_all us [] are = refl
 left_all us (r ∷ rs) are = rw (are.0, left_all us rs are.1) refl
 
 left_in_order : (low : ℕ) (gots : List (ℕ × Got)) (left : List sequencers.Unanswered) (rs : List clients.Request) (high : ℕ) → IsSplit low gots left rs high
-    → receipts.requests_left rs left ≡ given.left_after gots rs
+    → receipts.requests_left rs left ≡ giving.requests_after gots rs
 left_in_order low [] left rs high is = left_all left rs (numbered_among low left rs high is)
 left_in_order low (g ∷ gots) left [] high is = absurd is
 left_in_order low (g ∷ gots) left (r ∷ rs) high is =
@@ -140,7 +140,7 @@ left_in_order low (g ∷ gots) left (r ∷ rs) high is =
     rw none (left_in_order g.0 gots left rs high is.2)
 
 -- a release by order is a release by number
-pub gives_releases : (c : clients.Client) (first : List Item) → numbered.IsSound c → given.gives c first ≡ receipts.releases c first
+pub gives_releases : (c : clients.Client) (first : List Item) → numbered.IsSound c → giving.gives c first ≡ receipts.releases c first
 gives_releases c first sound =
     let r : sequencers.Release = sequencers.release_of c.sequencer in
     let split : IsSplit 0 r.items r.calls c.requests c.calls = release_splits c.sequencer.heard c.sequencer.seen c.sequencer.read 0 c.sequencer.calls c.requests c.calls sound.numbered in
@@ -154,7 +154,7 @@ numbered_lower low m (u ∷ us) [] high le is = is
 numbered_lower low m (u ∷ us) (r ∷ rs) high le is = (let less : m < u.number = is.0 in omega arith, is.1, is.2, is.3)
 
 split_numbered : (low m : ℕ) (gots : List (ℕ × Got)) (left : List sequencers.Unanswered) (rs : List clients.Request) (high : ℕ) → low ≤ m → IsSplit m gots left rs high
-    → numbered.AreNumbered low left (given.left_after gots rs) high
+    → numbered.AreNumbered low left (giving.requests_after gots rs) high
 split_numbered low m [] left rs high le is = numbered_lower low m left rs high le is
 split_numbered low m (g ∷ gots) left [] high le is = absurd is
 split_numbered low m (g ∷ gots) left (r ∷ rs) high le is =
@@ -165,5 +165,5 @@ pub sound_releases : (c : clients.Client) (first : List Item) → numbered.IsSou
 sound_releases c first sound =
     let r : sequencers.Release = sequencers.release_of c.sequencer in
     let split : IsSplit 0 r.items r.calls c.requests c.calls = release_splits c.sequencer.heard c.sequencer.seen c.sequencer.read 0 c.sequencer.calls c.requests c.calls sound.numbered in
-    let left : receipts.requests_left c.requests r.calls ≡ given.left_after r.items c.requests = left_in_order 0 r.items r.calls c.requests c.calls split in
+    let left : receipts.requests_left c.requests r.calls ≡ giving.requests_after r.items c.requests = left_in_order 0 r.items r.calls c.requests c.calls split in
     record { last = sound.last; numbered = rw left (split_numbered 0 0 r.items r.calls c.requests c.calls (omega arith) split) }

@@ -5,20 +5,20 @@ use Rattle.ax_types.specs.declared.items.Item.{Item}
 use Rattle.ax_types.specs.declared.sessions.Got.{Got}
 use Rattle.spec_client.specs.Clients as clients
 use Rattle.spec_client.specs.Receipts as receipts
-use Rattle.cli_session.specs.Given as given
+use Rattle.cli_session.specs.GivingOut as giving
 
 pub open_push : (c : clients.Client) (rs : List clients.Request) (r : clients.Request)
-    → given.open_payloads c (rs ++ r ∷ []) ≡ given.open_payloads c rs ++ given.payload_if (clients.lacks_answer c.sequencer.calls r.number) c r
+    → giving.open_payloads c (rs ++ r ∷ []) ≡ giving.open_payloads c rs ++ giving.payload_if (clients.lacks_answer c.sequencer.calls r.number) c r
 open_push c [] r = by_test (clients.lacks_answer c.sequencer.calls r.number)
   where
-    by_test : (b : Bool) → map (clients.payload_of c) (cond b (r ∷ []) []) ≡ given.payload_if b c r
+    by_test : (b : Bool) → map (clients.payload_of c) (cond b (r ∷ []) []) ≡ giving.payload_if b c r
     by_test true = refl
     by_test false = refl
 open_push c (s ∷ rs) r = by_test (clients.lacks_answer c.sequencer.calls s.number) (open_push c rs r)
   where
-    by_test : (b : Bool) → given.open_payloads c (rs ++ r ∷ []) ≡ given.open_payloads c rs ++ given.payload_if (clients.lacks_answer c.sequencer.calls r.number) c r
+    by_test : (b : Bool) → giving.open_payloads c (rs ++ r ∷ []) ≡ giving.open_payloads c rs ++ giving.payload_if (clients.lacks_answer c.sequencer.calls r.number) c r
         → map (clients.payload_of c) (cond b (s ∷ filter (λ x. clients.lacks_answer c.sequencer.calls x.number) (rs ++ r ∷ [])) (filter (λ x. clients.lacks_answer c.sequencer.calls x.number) (rs ++ r ∷ [])))
-        ≡ map (clients.payload_of c) (cond b (s ∷ filter (λ x. clients.lacks_answer c.sequencer.calls x.number) rs) (filter (λ x. clients.lacks_answer c.sequencer.calls x.number) rs)) ++ given.payload_if (clients.lacks_answer c.sequencer.calls r.number) c r
+        ≡ map (clients.payload_of c) (cond b (s ∷ filter (λ x. clients.lacks_answer c.sequencer.calls x.number) rs) (filter (λ x. clients.lacks_answer c.sequencer.calls x.number) rs)) ++ giving.payload_if (clients.lacks_answer c.sequencer.calls r.number) c r
     by_test true rest = ap (λ ps. clients.payload_of c s ∷ ps) rest
     by_test false rest = rest
 
@@ -50,13 +50,13 @@ map_append f [] ys = refl
 map_append f (x ∷ xs) ys = ap (λ zs. f x ∷ zs) (map_append f xs ys)
 
 pub gap_push : (c : clients.Client) (last : ℕ) (rs : List clients.Request) (r : clients.Request)
-    → given.gap_payloads c last (rs ++ r ∷ [])
-    ≡ given.gap_payloads c last rs ++ given.payload_if (clients.lacks_answer c.sequencer.calls r.number && receipts.is_command_above last r r.call) c r
+    → giving.gap_payloads c last (rs ++ r ∷ [])
+    ≡ giving.gap_payloads c last rs ++ giving.payload_if (clients.lacks_answer c.sequencer.calls r.number && receipts.is_command_above last r r.call) c r
 gap_push c last rs r =
     ap (λ xs. map (clients.payload_of c) xs) (filter_both lacks above (rs ++ r ∷ []) ∙ filter_push (λ x. lacks x && above x) rs r)
     ∙ map_append (clients.payload_of c) (filter (λ x. lacks x && above x) rs) (if lacks r && above r then r ∷ [] else [])
     ∙ ap (λ xs. map (clients.payload_of c) xs ++ map (clients.payload_of c) (if lacks r && above r then r ∷ [] else [])) (sym (filter_both lacks above rs))
-    ∙ ap (λ ps. given.gap_payloads c last rs ++ ps) (by_test (lacks r && above r))
+    ∙ ap (λ ps. giving.gap_payloads c last rs ++ ps) (by_test (lacks r && above r))
   where
     lacks : clients.Request → Bool
     lacks x = clients.lacks_answer c.sequencer.calls x.number
@@ -64,31 +64,31 @@ gap_push c last rs r =
     above : clients.Request → Bool
     above x = receipts.is_command_above last x x.call
 
-    by_test : (b : Bool) → map (clients.payload_of c) (if b then r ∷ [] else []) ≡ given.payload_if b c r
+    by_test : (b : Bool) → map (clients.payload_of c) (if b then r ∷ [] else []) ≡ giving.payload_if b c r
     by_test true = refl
     by_test false = refl
 
 pub given_push : (session : ℕ) (gots : List (ℕ × Got)) (g : ℕ × Got) (rs : List clients.Request)
-    → given.given_out session (gots ++ g ∷ []) rs ≡ given.given_out session gots rs ++ given.given_out session (g ∷ []) (given.left_after gots rs)
+    → giving.given_out session (gots ++ g ∷ []) rs ≡ giving.given_out session gots rs ++ giving.given_out session (g ∷ []) (giving.requests_after gots rs)
 given_push session [] g rs = refl
 given_push session (h ∷ gots) g [] = refl
 given_push session (h ∷ gots) g (r ∷ rs) = ap (λ xs. receipts.answer_item session h.1 r r.call ∷ xs) (given_push session gots g rs)
 
-pub left_push : (gots : List (ℕ × Got)) (g : ℕ × Got) (rs : List clients.Request) → given.left_after (gots ++ g ∷ []) rs ≡ given.left_after (g ∷ []) (given.left_after gots rs)
+pub left_push : (gots : List (ℕ × Got)) (g : ℕ × Got) (rs : List clients.Request) → giving.requests_after (gots ++ g ∷ []) rs ≡ giving.requests_after (g ∷ []) (giving.requests_after gots rs)
 left_push [] g rs = refl
 left_push (h ∷ gots) g [] = refl
 left_push (h ∷ gots) g (r ∷ rs) = left_push gots g rs
 
 -- one more answer is given out
 pub given_step : (session : ℕ) (first before now : List Item) (gots : List (ℕ × Got)) (g : ℕ × Got) (rs mid new : List clients.Request)
-    → before ≡ first ++ given.given_out session gots rs → mid ≡ given.left_after gots rs
-    → now ≡ before ++ given.given_out session (g ∷ []) mid → new ≡ given.left_after (g ∷ []) mid
-    → (now ≡ first ++ given.given_out session (gots ++ g ∷ []) rs) × (new ≡ given.left_after (gots ++ g ∷ []) rs)
+    → before ≡ first ++ giving.given_out session gots rs → mid ≡ giving.requests_after gots rs
+    → now ≡ before ++ giving.given_out session (g ∷ []) mid → new ≡ giving.requests_after (g ∷ []) mid
+    → (now ≡ first ++ giving.given_out session (gots ++ g ∷ []) rs) × (new ≡ giving.requests_after (gots ++ g ∷ []) rs)
 given_step session first before now gots g rs mid new so_far left one left_one = (
   one
-      ∙ ap (λ (xs : List Item). xs ++ given.given_out session (g ∷ []) mid) so_far
-      ∙ append_assoc first (given.given_out session gots rs) (given.given_out session (g ∷ []) mid)
-      ∙ ap (λ (ms : List clients.Request). first ++ (given.given_out session gots rs ++ given.given_out session (g ∷ []) ms)) left
+      ∙ ap (λ (xs : List Item). xs ++ giving.given_out session (g ∷ []) mid) so_far
+      ∙ append_assoc first (giving.given_out session gots rs) (giving.given_out session (g ∷ []) mid)
+      ∙ ap (λ (ms : List clients.Request). first ++ (giving.given_out session gots rs ++ giving.given_out session (g ∷ []) ms)) left
       ∙ ap (λ (xs : List Item). first ++ xs) (sym (given_push session gots g rs)),
-  left_one ∙ ap (given.left_after (g ∷ [])) left ∙ sym (left_push gots g rs),
+  left_one ∙ ap (giving.requests_after (g ∷ [])) left ∙ sym (left_push gots g rs),
 )

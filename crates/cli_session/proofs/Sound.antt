@@ -17,7 +17,7 @@ use Rattle.spec_sequencer.specs.Sequencers as sequencers
 use Rattle.spec_client.specs.Clients as clients
 use Rattle.spec_client.specs.Receipts as receipts
 use Rattle.cli_session.specs.Numbered as numbered
-use Rattle.cli_session.specs.State as states
+use Rattle.cli_session.specs.CountedClients as counted
 use Rattle.cli_session.proofs.Numbers.{AreNumbered-push, AreNumbered-raised, AreNumbered-answered}
 use Rattle.cli_session.proofs.Release.{sound_releases}
 
@@ -44,7 +44,7 @@ counted_unsent c n is = record {
   commands = omega (arith, is.commands);
 }
 
-pub kept_unsent : (p : states.MovedClient) (n : ℕ) (is_spent : Bool) → n < 2 ^ 32 → numbered.IsKept p n is_spent → numbered.IsKept (record p { client = clients.unsent p.client }) (n + 1) is_spent
+pub kept_unsent : (p : counted.MovedClient) (n : ℕ) (is_spent : Bool) → n < 2 ^ 32 → numbered.FitTogether p n is_spent → numbered.FitTogether (record p { client = clients.unsent p.client }) (n + 1) is_spent
 kept_unsent p n is_spent room is =
     rw (add-one n) (record { within = omega (arith, room); moves = omega (arith, is.moves); counted = λ e. counted_unsent p.client n (is.counted e) })
 
@@ -62,13 +62,13 @@ counted_queries c l name q n is = record {
   commands = omega (arith, is.commands);
 }
 
-pub kept_makes_call : (p : states.MovedClient) (name : List ℕ) (o : Op) (n : ℕ) (is_spent : Bool) → n < 2 ^ 32 → numbered.IsKept p n is_spent
-    → numbered.IsKept (record p { client = (clients.makes_call p.client name o).client }) (n + 1) is_spent
+pub kept_makes_call : (p : counted.MovedClient) (name : List ℕ) (o : Op) (n : ℕ) (is_spent : Bool) → n < 2 ^ 32 → numbered.FitTogether p n is_spent
+    → numbered.FitTogether (record p { client = (clients.makes_call p.client name o).client }) (n + 1) is_spent
 kept_makes_call p name o n is_spent room is =
     rw (add-one n) (record { within = omega (arith, room); moves = omega (arith, is.moves); counted = λ e. counted_makes_call p.client name o n (is.counted e) })
 
-pub kept_queries : (p : states.MovedClient) (l : Level) (name : List ℕ) (q : Query) (n : ℕ) (is_spent : Bool) → n < 2 ^ 32 → numbered.IsKept p n is_spent
-    → numbered.IsKept (record p { client = (clients.queries p.client l name q).client }) (n + 1) is_spent
+pub kept_queries : (p : counted.MovedClient) (l : Level) (name : List ℕ) (q : Query) (n : ℕ) (is_spent : Bool) → n < 2 ^ 32 → numbered.FitTogether p n is_spent
+    → numbered.FitTogether (record p { client = (clients.queries p.client l name q).client }) (n + 1) is_spent
 kept_queries p l name q n is_spent room is =
     rw (add-one n) (record { within = omega (arith, room); moves = omega (arith, is.moves); counted = λ e. counted_queries p.client l name q n (is.counted e) })
 
@@ -149,8 +149,8 @@ counted_receives c node (payload.Ended session place h) n is =
 pub counted_received : (c : clients.Client) (node : ℕ) (p : Payload) (n : ℕ) → numbered.IsCounted c n → numbered.IsCounted (receipts.receives c node p).client (suc n)
 counted_received c node p n is = counted_more _ n (counted_receives c node p n is)
 
-pub kept_received : (p q : states.MovedClient) (node : ℕ) (pl : Payload) (n : ℕ) (is_spent : Bool) → n < 2 ^ 32 → is_spent ≡ false → numbered.IsKept p n is_spent
-    → q.client ≡ (receipts.receives p.client node pl).client → q.moves ≤ suc p.moves → numbered.IsKept q (n + 1) false
+pub kept_received : (p q : counted.MovedClient) (node : ℕ) (pl : Payload) (n : ℕ) (is_spent : Bool) → n < 2 ^ 32 → is_spent ≡ false → numbered.FitTogether p n is_spent
+    → q.client ≡ (receipts.receives p.client node pl).client → q.moves ≤ suc p.moves → numbered.FitTogether q (n + 1) false
 kept_received p q node pl n is_spent room whole is same moved =
     rw (add-one n) (record {
       within = omega (arith, room);

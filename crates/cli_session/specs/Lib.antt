@@ -1,4 +1,4 @@
-pub mod Given
+pub mod GivingOut
 pub mod Numbered
 pub mod Refusals
-pub mod State
+pub mod CountedClients

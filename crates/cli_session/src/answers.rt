@@ -3,7 +3,7 @@ ghost use Rattle.ax_types.specs.declared.items.Item.TheVariants as item;
 ghost use Rattle.spec_client.specs.Clients as clients;
 ghost use Rattle.spec_client.specs.Receipts as receipts;
 ghost use Rattle.cli_session.specs.Numbered as numbered;
-ghost use Rattle.cli_session.specs.Given as given;
+ghost use Rattle.cli_session.specs.GivingOut as giving;
 
 use crate::parts::Parts;
 use crate::requests::Request;
@@ -18,8 +18,8 @@ fn give_one(
     items: &mut Vec<Item>,
     item: (u64, Got),
 ) -> Result<(), NoMemory>
-    ensures items { OnOk result (items.new.items ≡ items.old.items ++ given.given_out session (item ∷ []) requests.old.items) }
-    ensures left { OnOk result (requests.new.items ≡ given.left_after (item ∷ []) requests.old.items) }
+    ensures items { OnOk result (items.new.items ≡ items.old.items ++ giving.given_out session (item ∷ []) requests.old.items) }
+    ensures left { OnOk result (requests.new.items ≡ giving.requests_after (item ∷ []) requests.old.items) }
 {
     if let Some(request) = requests.pop_front() {
         items.push(request.answer_item(session, item.1))?;
@@ -34,8 +34,8 @@ fn give_out(
     items: &mut Vec<Item>,
     answers: List<(u64, Got)>,
 ) -> Result<(), NoMemory>
-    ensures items { OnOk result (items.new.items ≡ items.old.items ++ given.given_out session answers requests.old.items) }
-    ensures left { OnOk result (requests.new.items ≡ given.left_after answers requests.old.items) }
+    ensures items { OnOk result (items.new.items ≡ items.old.items ++ giving.given_out session answers requests.old.items) }
+    ensures left { OnOk result (requests.new.items ≡ giving.requests_after answers requests.old.items) }
 {
     items.reserve(answers.len())?;
     'answers: for answer in answers.into_vec() {
@@ -58,8 +58,8 @@ impl Parts {
 
     /// The same, each answer with the first request that is left.
     fn give(&mut self, first: Vec<Item>) -> Result<ClientOut, NoMemory>
-        ensures ok { IfOk result (λ out. out ≡ (given.gives self.old.client first.items).out) }
-        ensures after { OnOk result (self.new.client ≡ (given.gives self.old.client first.items).client) }
+        ensures ok { IfOk result (λ out. out ≡ (giving.gives self.old.client first.items).out) }
+        ensures after { OnOk result (self.new.client ≡ (giving.gives self.old.client first.items).client) }
         ensures moves { self.new.moves ≡ self.old.moves }
     {
         let released = self.sequencer.release()?;
@@ -89,7 +89,7 @@ impl Parts {
 
     /// The end of the session, and what becomes of the calls without an outcome.
     pub fn end_items(&self, session: u64, place: u64, how: How) -> Result<Vec<Item>, NoMemory>
-        ensures { IfOk result (λ items. items.items ≡ item.Ended session place how ∷ map (given.outcome_at_end session) self.now.client.requests) }
+        ensures { IfOk result (λ items. items.items ≡ item.Ended session place how ∷ map (giving.item_at_end session) self.now.client.requests) }
     {
         let mut items = Vec::with_capacity(self.alloc, self.requests.len() + 1)?;
         items.push(Item::Ended {
@@ -98,7 +98,7 @@ impl Parts {
             how,
         })?;
         'requests: for request in self.requests.iter() {
-            items.push(request.outcome_at_end(session))?;
+            items.push(request.item_at_end(session))?;
         }
         Ok(items)
     }

@@ -3,7 +3,7 @@ ghost use Rattle.ax_types.specs.declared.refusals.ClientRefused.TheVariants as r
 ghost use Rattle.spec_client.specs.Clients as clients;
 ghost use Rattle.spec_client.specs.Receipts as receipts;
 ghost use Rattle.cli_session.specs.Refusals as refusals;
-ghost use Rattle.cli_session.specs.State as states;
+ghost use Rattle.cli_session.specs.CountedClients as counted;
 
 use crate::parts::Parts;
 use ax_types::{
@@ -25,13 +25,13 @@ pub struct Client {
 
 impl Model for Client {
     ghost use Rattle.cli_session.specs.Numbered as numbered;
-    ghost use Rattle.cli_session.specs.State as states;
+    ghost use Rattle.cli_session.specs.CountedClients as counted;
 
-    ghost Value = { states.CountedClient };
+    ghost Value = { counted.CountedClient };
 
     ghost view = { λ a. record { client = a.parts.client; calls = a.calls; is_spent = a.is_spent } };
 
-    ghost invariant = { λ a. numbered.IsKept a.parts a.calls a.is_spent };
+    ghost invariant = { λ a. numbered.FitTogether a.parts a.calls a.is_spent };
 }
 
 impl Client {
@@ -59,7 +59,7 @@ impl Client {
         requires whole { self.old.is_spent ≡ false }
         requires room { self.old.calls < 2 ^ 32 }
         ensures ok { IfOk result (λ out. out ≡ (clients.opens self.old.client node).out) }
-        ensures after { OnOk result (self.new ≡ states.changed_to self.old (clients.opens self.old.client node).client) }
+        ensures after { OnOk result (self.new ≡ counted.changed_to self.old (clients.opens self.old.client node).client) }
         ensures free { OnOk result (clients.open_refusal self.old.client ≡ None) }
         ensures refused { IfErr result (λ e. e ≡ refusals.error_by (clients.open_refusal self.old.client)) }
         ensures err { OnErr result (self.new ≡ self.old) }
@@ -79,7 +79,7 @@ impl Client {
         requires whole { self.old.is_spent ≡ false }
         requires room { self.old.calls < 2 ^ 32 }
         ensures ok { IfOk result (λ out. out ≡ (clients.makes_call self.old.client name.now op.now).out) }
-        ensures after { OnOk result (self.new ≡ states.changed_to self.old (clients.makes_call self.old.client name.now op.now).client) }
+        ensures after { OnOk result (self.new ≡ counted.changed_to self.old (clients.makes_call self.old.client name.now op.now).client) }
         ensures free { OnOk result (clients.call_refusal self.old.client ≡ None) }
         ensures refused { IfErr result (λ e. e ≡ refusals.error_by (clients.call_refusal self.old.client)) }
         ensures err { OnErr result (self.new ≡ self.old) }
@@ -103,7 +103,7 @@ impl Client {
         requires whole { self.old.is_spent ≡ false }
         requires room { self.old.calls < 2 ^ 32 }
         ensures ok { IfOk result (λ out. out ≡ (clients.queries self.old.client level name.now query.now).out) }
-        ensures after { OnOk result (self.new ≡ states.changed_to self.old (clients.queries self.old.client level name.now query.now).client) }
+        ensures after { OnOk result (self.new ≡ counted.changed_to self.old (clients.queries self.old.client level name.now query.now).client) }
         ensures free { OnOk result (clients.call_refusal self.old.client ≡ None) }
         ensures refused { IfErr result (λ e. e ≡ refusals.error_by (clients.call_refusal self.old.client)) }
         ensures err { OnErr result (self.new ≡ self.old) }
@@ -122,7 +122,7 @@ impl Client {
         requires whole { self.old.is_spent ≡ false }
         requires room { self.old.calls < 2 ^ 32 }
         ensures ok { IfOk result (λ out. out ≡ (clients.closes self.old.client).out) }
-        ensures after { OnOk result (self.new ≡ states.changed_to self.old (clients.closes self.old.client).client) }
+        ensures after { OnOk result (self.new ≡ counted.changed_to self.old (clients.closes self.old.client).client) }
         ensures free { OnOk result (clients.close_refusal self.old.client ≡ None) }
         ensures refused { IfErr result (λ e. e ≡ refusals.error_by (clients.close_refusal self.old.client)) }
         ensures err { OnErr result (self.new ≡ self.old) }
@@ -167,7 +167,7 @@ impl Client {
         requires whole { self.old.is_spent ≡ false }
         requires room { self.old.calls < 2 ^ 32 }
         ensures ok { IfOk result (λ out. out ≡ (clients.switches self.old.client node).out) }
-        ensures after { OnOk result (self.new ≡ states.changed_to self.old (clients.switches self.old.client node).client) }
+        ensures after { OnOk result (self.new ≡ counted.changed_to self.old (clients.switches self.old.client node).client) }
         ensures refused { IfErr result (λ e. e ≡ refused.NoMemory) }
         ensures err { OnErr result (self.new ≡ self.old) }
     {
@@ -182,7 +182,7 @@ impl Client {
         requires room { self.old.calls < 2 ^ 32 }
         requires ended { clients.has_ended self.old.client.state ≡ true }
         ensures number { result ≡ clients.unsent_number self.old.client }
-        ensures after { self.new ≡ states.changed_to self.old (clients.unsent self.old.client) }
+        ensures after { self.new ≡ counted.changed_to self.old (clients.unsent self.old.client) }
     {
         let number = self.parts.unsent();
         self.calls += 1;
@@ -194,7 +194,7 @@ impl Client {
         requires whole { self.old.is_spent ≡ false }
         requires room { self.old.calls < 2 ^ 32 }
         ensures ok { IfOk result (λ out. out ≡ (receipts.receives self.old.client from payload.now).out) }
-        ensures after { OnOk result (self.new ≡ states.changed_to self.old (receipts.receives self.old.client from payload.now).client) }
+        ensures after { OnOk result (self.new ≡ counted.changed_to self.old (receipts.receives self.old.client from payload.now).client) }
         ensures err { OnErr result (self.new.is_spent ≡ true) }
     {
         self.is_spent = true;

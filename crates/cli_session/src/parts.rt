@@ -30,9 +30,9 @@ pub struct Parts {
 }
 
 impl Model for Parts {
-    ghost use Rattle.cli_session.specs.State as states;
+    ghost use Rattle.cli_session.specs.CountedClients as counted;
 
-    ghost Value = { states.MovedClient };
+    ghost Value = { counted.MovedClient };
 
     ghost view = { λ a. record { client = record { me = a.me; state = a.state; switch = a.switch.switch; calls = a.calls; commands = a.commands; sequencer = a.sequencer; requests = a.requests.items }; moves = a.switch.calls } };
 }

@@ -1,7 +1,7 @@
 ghost use Rattle.std.specs.Prelude.{◌≡◌, ℕ, IfOk};
 ghost use Rattle.spec_client.specs.Clients as clients;
 ghost use Rattle.spec_client.specs.Receipts as receipts;
-ghost use Rattle.cli_session.specs.Given as given;
+ghost use Rattle.cli_session.specs.GivingOut as giving;
 
 use ax_types::{Got, Item, WindowCall};
 use std::marker::Model;
@@ -63,8 +63,8 @@ impl Request {
     }
 
     /// The item of its call where the session ends before an outcome: a command is in doubt, a query lost.
-    pub fn outcome_at_end(&self, session: u64) -> Item
-        ensures { result ≡ given.outcome_at_end session self.now }
+    pub fn item_at_end(&self, session: u64) -> Item
+        ensures { result ≡ giving.item_at_end session self.now }
     {
         let number = self.number;
         match &self.call {

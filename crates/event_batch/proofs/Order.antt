@@ -6,33 +6,33 @@ use Rattle.std.specs.Prelude.{filter}
 use Rattle.std.specs.List.{slice_index_or}
 use Rattle.std.specs.List.Sorted.{IsNonDecreasingBy}
 use Rattle.ax_types.specs.declared.entries.Batch.{Batch}
-use Rattle.event_batch.specs.Places as places
+use Rattle.event_batch.specs.BatchOrder as batch_order
 
 -- one more batch, at a later place
-pub Rise-push : (above last place : ℕ) (bs : List Batch) (b : Batch) → places.Rise above last bs → last < b.place → b.place ≡ place → places.Rise above place (bs ++ b ∷ [])
+pub Rise-push : (above last place : ℕ) (bs : List Batch) (b : Batch) → batch_order.Rise above last bs → last < b.place → b.place ≡ place → batch_order.Rise above place (bs ++ b ∷ [])
 Rise-push above last place [] b r lt e = (omega arith, omega arith)
 Rise-push above last place (x ∷ bs) b r lt e = (r.0, Rise-push x.place last place bs b r.1 lt e)
 
 -- the rest of the batches
-pub Rise-weaker : (above lower last : ℕ) (bs : List Batch) → lower ≤ above → places.Rise above last bs → places.Rise lower last bs
+pub Rise-weaker : (above lower last : ℕ) (bs : List Batch) → lower ≤ above → batch_order.Rise above last bs → batch_order.Rise lower last bs
 Rise-weaker above lower last [] le r = omega arith
 Rise-weaker above lower last (x ∷ bs) le r = (omega arith, r.1)
 
-pub Rise-drop : (above last n : ℕ) (bs : List Batch) → places.Rise above last bs → places.Rise above last (drop n bs)
+pub Rise-drop : (above last n : ℕ) (bs : List Batch) → batch_order.Rise above last bs → batch_order.Rise above last (drop n bs)
 Rise-drop above last zero bs r = r
 Rise-drop above last (suc n) [] r = r
 Rise-drop above last (suc n) (x ∷ bs) r = Rise-weaker x.place above last (drop n bs) (omega arith) (Rise-drop x.place last n bs r.1)
 
 -- every later place is above
-above_first : (above last : ℕ) (bs : List Batch) (j : ℕ) (d : Batch) → places.Rise above last bs → j < length bs → above < (slice_index_or bs j d).place
+above_first : (above last : ℕ) (bs : List Batch) (j : ℕ) (d : Batch) → batch_order.Rise above last bs → j < length bs → above < (slice_index_or bs j d).place
 above_first above last [] j d r lt = absurd (omega arith)
 above_first above last (x ∷ bs) zero d r lt = r.0
 above_first above last (x ∷ bs) (suc j) d r lt = let more : x.place < (slice_index_or bs j d).place = above_first x.place last bs j d r.1 (omega arith) in let first : above < x.place = r.0 in omega arith
 
-pub rising : (above last : ℕ) (bs : List Batch) → places.Rise above last bs → IsNonDecreasingBy (λ (b : Batch). b.place) bs
+pub rising : (above last : ℕ) (bs : List Batch) → batch_order.Rise above last bs → IsNonDecreasingBy (λ (b : Batch). b.place) bs
 rising above last bs r = λ i j d le lt. by_place above bs r i j le lt d
   where
-    by_place : (above : ℕ) (bs : List Batch) → places.Rise above last bs → (i j : ℕ) → i ≤ j → j < length bs → (d : Batch) → (slice_index_or bs i d).place ≤ (slice_index_or bs j d).place
+    by_place : (above : ℕ) (bs : List Batch) → batch_order.Rise above last bs → (i j : ℕ) → i ≤ j → j < length bs → (d : Batch) → (slice_index_or bs i d).place ≤ (slice_index_or bs j d).place
     by_place above [] r i j le lt d = absurd (omega arith)
     by_place above (x ∷ bs) r zero zero le lt d = omega arith
     by_place above (x ∷ bs) r zero (suc j) le lt d = let more : x.place < (slice_index_or bs j d).place = above_first x.place last bs j d r.1 (omega arith) in omega arith

@@ -19,13 +19,13 @@ pub struct Batches {
 
 impl Model for Batches {
     ghost use Rattle.spec_sessions.specs.Outboxes as outbox;
-    ghost use Rattle.event_batch.specs.Places as places;
+    ghost use Rattle.event_batch.specs.BatchOrder as batch_order;
 
     ghost Value = { outbox.Batches };
 
     ghost view = { λ a. record { last = a.last; kept = a.kept.items } };
 
-    ghost invariant = { λ a. places.RiseTo a.last a.kept.items };
+    ghost invariant = { λ a. batch_order.RiseTo a.last a.kept.items };
 }
 
 impl Batches {

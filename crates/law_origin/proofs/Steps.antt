@@ -23,7 +23,7 @@ use Rattle.spec_cluster.specs.Bag as bags
 use Rattle.spec_cluster.specs.Cluster as clusters
 use Rattle.law_agreement.specs.Agreement as laws
 use Rattle.law_agreement.proofs.Tests.{both}
-use Rattle.law_origin.specs.Origin.{IsOneOf, IsAskedFor, IsAsked, WasAsked, HasOrigin, entries_in, AllEntries, EntriesHaveOrigin}
+use Rattle.law_origin.specs.Origin.{IsOneOf, IsAskedFor, Asks, WasAsked, HasOrigin, entries_in, AllEntries, EntriesHaveOrigin}
 use Rattle.law_origin.proofs.Each.{by_test, each_append, each_take, each_drop, each_map, each_at, each_change}
 use Rattle.law_origin.proofs.Rules.{Brings, MayBring, did_brings, stepped_log, halted_log}
 
@@ -129,7 +129,7 @@ started_keeps P c k (Some m) is a =
     let u : clusters.Member = record { is_up = true; node = nodes.restarted m.node.ballot.me m.node.ballot.nodes (nodes.kept_of m.node) } in
     by_test (AllEntries P) m.is_up c (clusters.with_member c k u) (λ e. a) (λ e. member_keeps P c k u a (each_at (InLogs P) c.members k m a.logs is))
 
-step_keeps : (P : Entry → Type 0) (c : clusters.Cluster) (r : RaftStep) → ((e : Entry) → e.body ≡ body.Blank → P e) → AllEntries P c → ((e : Entry) → IsAsked c r e → P e) → AllEntries P (clusters.happened c r)
+step_keeps : (P : Entry → Type 0) (c : clusters.Cluster) (r : RaftStep) → ((e : Entry) → e.body ≡ body.Blank → P e) → AllEntries P c → ((e : Entry) → Asks c r e → P e) → AllEntries P (clusters.happened c r)
 step_keeps P c (step.Made (input.Crash k)) blank a f = crashed_keeps P c k (at_place c.members k) refl a
 step_keeps P c (step.Made (input.Start k)) blank a f = started_keeps P c k (at_place c.members k) refl a
 step_keeps P c (step.Made (input.Elect k clock)) blank a f = made_keeps P c (clusters.intake c (input.Elect k clock)) blank a (fits P c (input.Elect k clock) a f)

@@ -24,14 +24,14 @@ IsAskedFor c (input.Append k clock bodies) e = (x : nodes.Node) × laws.IsLeader
 IsAskedFor c i e = ⊥
 
 -- a step, made or halted, asks for it
-abbrev pub IsAsked : clusters.Cluster → RaftStep → Entry → Type 0
-IsAsked c (step.Made i) e = IsAskedFor c i e
-IsAsked c (step.Halt i saved added) e = IsAskedFor c i e
+abbrev pub Asks : clusters.Cluster → RaftStep → Entry → Type 0
+Asks c (step.Made i) e = IsAskedFor c i e
+Asks c (step.Halt i saved added) e = IsAskedFor c i e
 
 -- in one of these steps
 abbrev pub WasAsked : clusters.Cluster → List RaftStep → Entry → Type 0
 WasAsked c [] e = ⊥
-WasAsked c (r ∷ rs) e = IsAsked c r e ⊎ WasAsked (clusters.happened c r) rs e
+WasAsked c (r ∷ rs) e = Asks c r e ⊎ WasAsked (clusters.happened c r) rs e
 
 -- the blank of an election, or what a step asked for
 abbrev pub HasOrigin : ℕ → List RaftStep → Entry → Type 0

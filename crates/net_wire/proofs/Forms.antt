@@ -5,7 +5,7 @@ use Rattle.std.specs.Int.{w64, from_be_bytes}
 use Rattle.std.proofs.lemmas.Grind.{common_steps}
 use Rattle.ax_types.specs.Letters as ax_types_letters
 use Rattle.spec_reading.specs.Reading as reading
-use Rattle.net_wire.specs.Given.{form_at}
+use Rattle.net_wire.specs.ReaderCalls.{form_at}
 
 -- the letters at the front of bytes, padded
 pub eight_padded : (byte : ℕ) (bytes : List ℕ) → take 8 (bytes ++ replicate 8 byte)

@@ -6,7 +6,7 @@ use Rattle.spec_reading.specs.Reading.{◌>>=◌}
 use Rattle.spec_reading.specs.Reading as reading
 use Rattle.net_wire.specs.declared.unread.Unread.{Unread}
 use Rattle.net_wire.specs.declared.unread.Unread.TheVariants as unread
-use Rattle.net_wire.specs.Given.{Gives}
+use Rattle.net_wire.specs.ReaderCalls.{Gives}
 
 -- what was read before, and what is still read
 abbrev pub with_front : {A : Type 0} → List A → reading.Reading (List A) → reading.Reading (List A)

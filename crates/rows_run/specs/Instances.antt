@@ -31,17 +31,17 @@ script_lines = row_scripts.elect 1 ∷ row_scripts.opening 1 1 ∷ row_scripts.f
 abbrev pub works : List runs.Work
 works = runs.works_of (lists.numbered 2 script_lines)
 
-abbrev pub first_world : worlds.World
-first_world = worlds.new_world 1 1 1000
+abbrev pub one_world : worlds.World
+one_world = worlds.new_world 1 1 1000
 
-abbrev pub fine : Step → KeptStep
-fine s = record { step = s; outcome = outcome.Fine }
+abbrev pub fine_step : Step → KeptStep
+fine_step s = record { step = s; outcome = outcome.Fine }
 
 -- the opening takes three packets, the command two
 abbrev pub steps : List KeptStep
 steps =
-    fine (step.Elect 1) ∷ fine (step.Open 1 1) ∷ fine (step.Deliver 1) ∷ fine (step.Deliver 2) ∷ fine (step.Deliver 3)
-    ∷ fine (step.Call 1 (codes "c") add_five) ∷ fine (step.Deliver 4) ∷ fine (step.Deliver 5) ∷ []
+    fine_step (step.Elect 1) ∷ fine_step (step.Open 1 1) ∷ fine_step (step.Deliver 1) ∷ fine_step (step.Deliver 2) ∷ fine_step (step.Deliver 3)
+    ∷ fine_step (step.Call 1 (codes "c") add_five) ∷ fine_step (step.Deliver 4) ∷ fine_step (step.Deliver 5) ∷ []
 
 abbrev pub history : List (ℕ × Act)
 history = (0, act.Nothing) ∷ (0, act.Open 1 1) ∷ (0, act.Do 2 (codes "c") add_five) ∷ []

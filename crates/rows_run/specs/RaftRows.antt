@@ -55,15 +55,15 @@ settled k c = flushed 100 (clusters.made (flushed 100 (clusters.made (flushed 10
 abbrev pub append : ℕ → Body → NodeInput
 append k b = node.Append k 0 (b ∷ [])
 
-abbrev pub add_five : Body
-add_five = body.Command 1 2 1 (codes "c") (op.Long (long.Add (pos 5)))
+abbrev pub add_five_body : Body
+add_five_body = body.Command 1 2 1 (codes "c") (op.Long (long.Add (pos 5)))
 
 -- node 1 leads, takes a registration and then a command that it commits not; node 2 leads, and takes the command again
 abbrev pub first_leader : clusters.Cluster
-first_leader = clusters.made (settled 1 (clusters.made (settled 1 (clusters.made (clusters.new_cluster 3) (node.Elect 1 0))) (append 1 (body.Register 1 1)))) (append 1 add_five)
+first_leader = clusters.made (settled 1 (clusters.made (settled 1 (clusters.made (clusters.new_cluster 3) (node.Elect 1 0))) (append 1 (body.Register 1 1)))) (append 1 add_five_body)
 
 abbrev pub second_leader : clusters.Cluster
-second_leader = settled 2 (clusters.made (settled 2 (all_made first_leader (node.Crash 1 ∷ node.Elect 2 0 ∷ []))) (append 2 add_five))
+second_leader = settled 2 (clusters.made (settled 2 (all_made first_leader (node.Crash 1 ∷ node.Elect 2 0 ∷ []))) (append 2 add_five_body))
 
 abbrev pub both_leaders : clusters.Cluster
 both_leaders = settled 2 (clusters.made second_leader (node.Start 1))

@@ -301,7 +301,7 @@ pub fn session_table()
 
 /// The steps of a run are those of its script, and the stores may have fared so in each.
 pub fn steps_unfold()
-    ensures { runs.Unfolds instances.first_world instances.works instances.steps }
+    ensures { runs.Unfolds instances.one_world instances.works instances.steps }
 {}
 
 /// What the store keeps is what the run leaves there.

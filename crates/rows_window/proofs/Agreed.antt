@@ -16,7 +16,7 @@ given_once : (n : ℕ) → agreement.times_given n closed_window.pump ≤ 1
 given_once zero = search rules
 given_once (suc n) = search rules
 
-pub agreed : agreement.IsAgreed 2 closed_window.pump (closed_window.seat ∷ []) closed_window.found
+pub agreed : agreement.IsAgreed 2 closed_window.pump (closed_window.seat ∷ []) closed_window.last_loads
 agreed = record {
   once = once;
   rising = search rules;

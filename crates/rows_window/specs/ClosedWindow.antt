@@ -10,25 +10,25 @@ use Rattle.spec_window.specs.Views as views
 use Rattle.spec_window.specs.WindowCalls as window_calls
 use Rattle.spec_window.specs.WindowAgreement as agreement
 
-abbrev pub add_five : WindowCall
-add_five = call.Command (codes "c") (op.Long (long.Add (pos 5)))
+abbrev pub add_five_call : WindowCall
+add_five_call = call.Command (codes "c") (op.Long (long.Add (pos 5)))
 
-abbrev pub given : List views.GivenOutcome
-given = record { number = 0; outcome = outcome.Doubt } ∷ []
+abbrev pub told_outcomes : List views.GivenOutcome
+told_outcomes = record { number = 0; outcome = outcome.Doubt } ∷ []
 
 abbrev pub pump : views.PumpView
-pump = record { taken = add_five ∷ []; given = given; base = 1; looks = [] }
+pump = record { taken = add_five_call ∷ []; given = told_outcomes; base = 1; looks = [] }
 
-abbrev pub drawn : List views.Drawn
-drawn = record { number = 0; call = add_five; outcome = Some outcome.Doubt } ∷ []
+abbrev pub drawn_calls : List views.Drawn
+drawn_calls = record { number = 0; call = add_five_call; outcome = Some outcome.Doubt } ∷ []
 
 abbrev pub seat : views.SeatView
-seat = record { caller = 1; mine = drawn; seen = 1; looks = [] }
+seat = record { caller = 1; mine = drawn_calls; seen = 1; looks = [] }
 
 -- the next number, and the place of the call free for its next number
-abbrev pub found : agreement.LastLoads
-found = record { next = 1; states = 8 ∷ 4 ∷ [] }
+abbrev pub last_loads : agreement.LastLoads
+last_loads = record { next = 1; states = 8 ∷ 4 ∷ [] }
 
 -- the seat handed back at the close: a load of next for the join, and then the last loads
 abbrev pub closed_seat : views.SeatView
-closed_seat = record seat { looks = window_calls.look window_words.Next 1 ∷ agreement.found_looks found }
+closed_seat = record seat { looks = window_calls.look window_words.Next 1 ∷ agreement.found_looks last_loads }

@@ -14,7 +14,7 @@ pub fn one_call()
 
 /// After that call the seat, the pump and the words agree.
 pub fn one_call_is_agreed()
-    ensures { agreement.IsAgreed 2 closed_window.pump (closed_window.seat ∷ []) closed_window.found }
+    ensures { agreement.IsAgreed 2 closed_window.pump (closed_window.seat ∷ []) closed_window.last_loads }
 {}
 
 /// The window is closed: one call was drawn, and one outcome given.
@@ -24,5 +24,5 @@ pub fn one_call_is_closed()
 
 /// The caller drew its one call and was told its outcome.
 pub fn one_call_is_reported()
-    ensures { agreement.IsReported (closed_window.add_five ∷ []) closed_window.seat closed_window.given }
+    ensures { agreement.IsReported (closed_window.add_five_call ∷ []) closed_window.seat closed_window.told_outcomes }
 {}

@@ -18,9 +18,9 @@ pub struct Switch {
 
 impl Model for Switch {
     ghost use Rattle.std.specs.Prelude.{◌≤◌, ◌^◌};
-    ghost use Rattle.server_switch.specs.State as states;
+    ghost use Rattle.server_switch.specs.CountedSwitch as counted;
 
-    ghost Value = { states.SwitchState };
+    ghost Value = { counted.SwitchState };
 
     ghost view = { λ a. record { switch = record { server = a.server; opening = a.opening; is_open = a.is_open }; calls = a.calls } };
 

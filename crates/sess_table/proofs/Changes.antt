@@ -15,28 +15,28 @@ use Rattle.spec_sessions.specs.Tables as tables
 use Rattle.sess_table.specs.declared.live.Origin.{Origin}
 use Rattle.sess_table.specs.declared.table.Past.{Past as Ending}
 use Rattle.sess_table.specs.Live as sess_table_lives
-use Rattle.sess_table.specs.Past as sess_table_pasts
-use Rattle.sess_table.specs.Kept as sess_table_kept
+use Rattle.sess_table.specs.Endings as sess_table_pasts
+use Rattle.sess_table.specs.TableParts as table_parts
 use Rattle.sess_table.proofs.Floors.{get-append, get-last, get-set_other, get-set_same}
 use Rattle.sess_table.proofs.Order.{find-live}
 use Rattle.sess_table.proofs.Ends.{lookup-push}
 
-live_not_gone : (x : Option (Option ℕ)) → sess_table_lives.is_live x ≡ true → sess_table_lives.is_gone x ≡ false
+live_not_gone : (x : Option (Option ℕ)) → sess_table_lives.is_signed x ≡ true → sess_table_lives.is_gone x ≡ false
 live_not_gone None e = cc
 live_not_gone (Some None) e = cc
 live_not_gone (Some (Some t)) e = refl
 
-live_there : (x : Option (Option ℕ)) → sess_table_lives.is_live x ≡ true → (y : Option ℕ) × (x ≡ Some y)
+live_there : (x : Option (Option ℕ)) → sess_table_lives.is_signed x ≡ true → (y : Option ℕ) × (x ≡ Some y)
 live_there None e = cc
 live_there (Some y) e = (y, refl)
 
 -- a live session is none of those that ended
-pub not_past : (timeout : ℕ) (es : List (ℕ × Origin)) (ss : List (Option ℕ)) (past : List (ℕ × Ending)) (i s : ℕ) → sess_table_kept.IsKept timeout es ss past
-    → slice_get (keys_of es) i ≡ Some s → sess_table_lives.is_live (slice_get ss i) ≡ true → is_some (lookup (nat_eq s) past) ≡ false
+pub not_past : (timeout : ℕ) (es : List (ℕ × Origin)) (ss : List (Option ℕ)) (past : List (ℕ × Ending)) (i s : ℕ) → table_parts.AreTable timeout es ss past
+    → slice_get (keys_of es) i ≡ Some s → sess_table_lives.is_signed (slice_get ss i) ≡ true → is_some (lookup (nat_eq s) past) ≡ false
 not_past timeout es ss past i s kept at live = kept.ended i s at ∙ live_not_gone (slice_get ss i) live
 
-pub kept-signed : (timeout : ℕ) (es : List (ℕ × Origin)) (ss : List (Option ℕ)) (past : List (ℕ × Ending)) (i s t : ℕ) → sess_table_kept.IsKept timeout es ss past
-    → slice_get (keys_of es) i ≡ Some s → sess_table_lives.is_live (slice_get ss i) ≡ true → sess_table_kept.IsKept timeout es (slice_set ss i (Some t)) past
+pub kept-signed : (timeout : ℕ) (es : List (ℕ × Origin)) (ss : List (Option ℕ)) (past : List (ℕ × Ending)) (i s t : ℕ) → table_parts.AreTable timeout es ss past
+    → slice_get (keys_of es) i ≡ Some s → sess_table_lives.is_signed (slice_get ss i) ≡ true → table_parts.AreTable timeout es (slice_set ss i (Some t)) past
 kept-signed timeout es ss past i s t kept at live = record {
   timed = kept.timed;
   unique = kept.unique;
@@ -73,8 +73,8 @@ same_place (k ∷ ks) s (suc i) zero d a b = absurd (apart ks i (IsDistinct-head
     apart (x ∷ ks) (suc j) h a' = apart ks j h.1 a'
 same_place (k ∷ ks) s (suc i) (suc j) d a b = let inner : nat_eq j i ≡ true = same_place ks s i j (IsDistinct-tail nat_eq k ks d) a b in grind (arith, common_steps)
 
-pub kept-finished : (timeout : ℕ) (es : List (ℕ × Origin)) (ss : List (Option ℕ)) (past : List (ℕ × Ending)) (i s : ℕ) (e : Ending) → sess_table_kept.IsKept timeout es ss past
-    → slice_get (keys_of es) i ≡ Some s → sess_table_lives.is_live (slice_get ss i) ≡ true → sess_table_kept.IsKept timeout es (slice_set ss i None) (past ++ (s, e) ∷ [])
+pub kept-finished : (timeout : ℕ) (es : List (ℕ × Origin)) (ss : List (Option ℕ)) (past : List (ℕ × Ending)) (i s : ℕ) (e : Ending) → table_parts.AreTable timeout es ss past
+    → slice_get (keys_of es) i ≡ Some s → sess_table_lives.is_signed (slice_get ss i) ≡ true → table_parts.AreTable timeout es (slice_set ss i None) (past ++ (s, e) ∷ [])
 kept-finished timeout es ss past i s e kept at live = record {
   timed = kept.timed;
   unique = kept.unique;
@@ -110,8 +110,8 @@ kept-finished timeout es ss past i s e kept at live = record {
         or_false true = refl
         or_false false = refl
 
-pub kept-registered : (timeout : ℕ) (es : List (ℕ × Origin)) (ss : List (Option ℕ)) (past : List (ℕ × Ending)) (s t : ℕ) (o : Origin) → sess_table_kept.IsKept timeout es ss past
-    → is_some (lookup (nat_eq s) past) ≡ false → IsDistinct nat_eq (keys_of (es ++ (s, o) ∷ [])) → sess_table_kept.IsKept timeout (es ++ (s, o) ∷ []) (ss ++ Some t ∷ []) past
+pub kept-registered : (timeout : ℕ) (es : List (ℕ × Origin)) (ss : List (Option ℕ)) (past : List (ℕ × Ending)) (s t : ℕ) (o : Origin) → table_parts.AreTable timeout es ss past
+    → is_some (lookup (nat_eq s) past) ≡ false → IsDistinct nat_eq (keys_of (es ++ (s, o) ∷ [])) → table_parts.AreTable timeout (es ++ (s, o) ∷ []) (ss ++ Some t ∷ []) past
 kept-registered timeout es ss past s t o kept new unique = record {
   timed = kept.timed;
   unique = unique;
@@ -158,7 +158,7 @@ live_below place (l ∷ ls) h =
     rw other (live_below place ls h.1)
 
 -- no session that was registered has a later number
-pub fresh : (timeout : ℕ) (es : List (ℕ × Origin)) (ss : List (Option ℕ)) (past : List (ℕ × Ending)) (place : ℕ) → sess_table_kept.IsKept timeout es ss past
+pub fresh : (timeout : ℕ) (es : List (ℕ × Origin)) (ss : List (Option ℕ)) (past : List (ℕ × Ending)) (place : ℕ) → table_parts.AreTable timeout es ss past
     → AllByRecursion (λ l. l.session < place) (sess_table_lives.live_in es ss) → AllByRecursion (λ p. p.session < place) (map sess_table_pasts.past_of past) → lookup (nat_eq place) es ≡ None
 fresh timeout es ss past place kept lives pasts = by (lookup (nat_eq place) es) refl
   where
@@ -202,7 +202,7 @@ last_popped None xs ys y e long some =
     let there : false ≡ true = some (omega arith) in cc
 last_popped (Some x) xs ys y e long some = let more : length (xs ++ y ∷ []) ≡ length xs + 1 = length-append xs (y ∷ []) in popped xs ys (x ∷ []) y e (omega arith)
 
-pub live_sign : (x : Option (Option ℕ)) → sess_table_lives.is_live x ≡ true → (t : ℕ) × (x ≡ Some (Some t))
+pub live_sign : (x : Option (Option ℕ)) → sess_table_lives.is_signed x ≡ true → (t : ℕ) × (x ≡ Some (Some t))
 live_sign None e = cc
 live_sign (Some None) e = cc
 live_sign (Some (Some t)) e = (t, refl)

@@ -6,20 +6,20 @@ use Rattle.std.specs.Map.{lookup}
 use Rattle.std.proofs.lemmas.Grind.{common_steps}
 use Rattle.spec_sessions.specs.Tables as tables
 use Rattle.sess_table.specs.declared.table.Past.{Past as Ending}
-use Rattle.sess_table.specs.Past as pasts
+use Rattle.sess_table.specs.Endings as endings
 
-past_head : (s : ℕ) (e : ℕ × Ending) (found : Option tables.PastSession) (kept : Option Ending) → found ≡ option_map (λ v. pasts.past_of (s, v)) kept → (b : Bool) → nat_eq s e.0 ≡ b
-    → cond (nat_eq e.0 s) (Some (pasts.past_of e)) found ≡ option_map (λ v. pasts.past_of (s, v)) (cond b (Some e.1) kept)
+past_head : (s : ℕ) (e : ℕ × Ending) (found : Option tables.PastSession) (kept : Option Ending) → found ≡ option_map (λ v. endings.past_of (s, v)) kept → (b : Bool) → nat_eq s e.0 ≡ b
+    → cond (nat_eq e.0 s) (Some (endings.past_of e)) found ≡ option_map (λ v. endings.past_of (s, v)) (cond b (Some e.1) kept)
 past_head s e found kept rest true t =
     let back : nat_eq e.0 s ≡ true = grind (arith, common_steps) in
     let here : e.0 ≡ s = grind (arith, common_steps) in
-    rw back (ap (λ n. Some (pasts.past_of (n, e.1))) here)
+    rw back (ap (λ n. Some (endings.past_of (n, e.1))) here)
 past_head s e found kept rest false t = let back : nat_eq e.0 s ≡ false = grind (arith, common_steps) in rw back rest
 
 -- the look-up of an ended session
-pub find-past : (s : ℕ) (es : List (ℕ × Ending)) → find (λ p. nat_eq p.session s) (map pasts.past_of es) ≡ option_map (λ v. pasts.past_of (s, v)) (lookup (nat_eq s) es)
+pub find-past : (s : ℕ) (es : List (ℕ × Ending)) → find (λ p. nat_eq p.session s) (map endings.past_of es) ≡ option_map (λ v. endings.past_of (s, v)) (lookup (nat_eq s) es)
 find-past s [] = refl
-find-past s (e ∷ es) = past_head s e (find (λ p. nat_eq p.session s) (map pasts.past_of es)) (lookup (nat_eq s) es) (find-past s es) (nat_eq s e.0) refl
+find-past s (e ∷ es) = past_head s e (find (λ p. nat_eq p.session s) (map endings.past_of es)) (lookup (nat_eq s) es) (find-past s es) (nat_eq s e.0) refl
 
 push_head : (x : Ending) (after before : Option Ending) (last : Bool) → is_some after ≡ cond (is_some before) true last → (b : Bool)
     → is_some (cond b (Some x) after) ≡ cond (is_some (cond b (Some x) before)) true last

@@ -24,7 +24,7 @@ pub none_from : {X : Type 0} (o : Option X) → is_some o ≡ false → o ≡ No
 none_from None e = refl
 none_from (Some x) e = cc
 
-pub live_from : (x : Option (Option ℕ)) (r : Option ℕ) → x ≡ Some r → is_some r ≡ true → lives.is_live x ≡ true
+pub live_from : (x : Option (Option ℕ)) (r : Option ℕ) → x ≡ Some r → is_some r ≡ true → lives.is_signed x ≡ true
 live_from x None e some = cc
 live_from x (Some t) e some = rw e refl
 
@@ -98,7 +98,7 @@ module _ (s : ℕ) where
   find-gone (e ∷ es) (Some x ∷ ss) (suc i) d at sign = rw (other e es i d at) (find-gone es ss i (tail e es d) at sign)
 
   -- a sign of a session that has one
-  pub signed-at : (time : ℕ) (es : List (ℕ × Origin)) (ss : List (Option ℕ)) (i : ℕ) → IsDistinct nat_eq (keys_of es) → slice_get (keys_of es) i ≡ Some s → lives.is_live (slice_get ss i) ≡ true
+  pub signed-at : (time : ℕ) (es : List (ℕ × Origin)) (ss : List (Option ℕ)) (i : ℕ) → IsDistinct nat_eq (keys_of es) → slice_get (keys_of es) i ≡ Some s → lives.is_signed (slice_get ss i) ≡ true
       → map (tables.with_sign s time) (lives.live_in es ss) ≡ lives.live_in es (slice_set ss i (Some time))
   signed-at time [] ss i d at sign = cc
   signed-at time (e ∷ es) [] i d at sign = cc
@@ -110,7 +110,7 @@ module _ (s : ℕ) where
       rw (other e es i d at) (ap (λ (xs : List tables.Live). lives.live_as e x ∷ xs) (signed-at time es ss i (tail e es d) at sign))
 
   -- the end of a session that has a sign
-  pub finished-at : (es : List (ℕ × Origin)) (ss : List (Option ℕ)) (i : ℕ) → IsDistinct nat_eq (keys_of es) → slice_get (keys_of es) i ≡ Some s → lives.is_live (slice_get ss i) ≡ true
+  pub finished-at : (es : List (ℕ × Origin)) (ss : List (Option ℕ)) (i : ℕ) → IsDistinct nat_eq (keys_of es) → slice_get (keys_of es) i ≡ Some s → lives.is_signed (slice_get ss i) ≡ true
       → filter (λ l. not (nat_eq l.session s)) (lives.live_in es ss) ≡ lives.live_in es (slice_set ss i None)
   finished-at [] ss i d at sign = cc
   finished-at (e ∷ es) [] i d at sign = cc

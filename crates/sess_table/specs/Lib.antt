@@ -1,4 +1,4 @@
 pub mod Signs
 pub mod Live
-pub mod Past
-pub mod Kept
+pub mod Endings
+pub mod TableParts

@@ -13,10 +13,10 @@ live_in (e ∷ sessions) (None ∷ signs) = live_in sessions signs
 live_in (e ∷ sessions) (Some sign ∷ signs) = live_as e sign ∷ live_in sessions signs
 
 -- whether a session stands there, and has a sign
-abbrev pub is_live : Option (Option ℕ) → Bool
-is_live (Some (Some sign)) = true
-is_live (Some None) = false
-is_live None = false
+abbrev pub is_signed : Option (Option ℕ) → Bool
+is_signed (Some (Some sign)) = true
+is_signed (Some None) = false
+is_signed None = false
 
 -- whether a session stands there, and has none
 abbrev pub is_gone : Option (Option ℕ) → Bool

@@ -21,7 +21,7 @@ pub struct Origin {
 pub fn live_index(sessions: &IndexMap<u64, Origin>, signs: &Signs, session: u64) -> Option<usize>
     requires { length signs.now ≡ length sessions.now.entries }
     ensures { MatchOption result (find (λ l. nat_eq l.session session) (lives.live_in sessions.now.entries signs.now) ≡ None) (λ i.
-        (slice_get (keys_of sessions.now.entries) i ≡ Some session) × (lives.is_live (slice_get signs.now i) ≡ true)) }
+        (slice_get (keys_of sessions.now.entries) i ≡ Some session) × (lives.is_signed (slice_get signs.now i) ≡ true)) }
 {
     let index = sessions.get_index_of(&session)?;
     if signs.at(index).is_some() {

@@ -2,7 +2,7 @@ ghost use Rattle.ax_types.specs.declared.limits.TheConstants.{MAX_TIMEOUT};
 ghost use Rattle.std.specs.Prelude.{◌≡◌, ◌≤◌, IfOk, OnOk, OnErr};
 ghost use Rattle.ax_types.specs.declared.sessions.SessionState.TheVariants as state;
 ghost use Rattle.spec_sessions.specs.Tables as tables;
-ghost use Rattle.sess_table.specs.Kept as kept;
+ghost use Rattle.sess_table.specs.TableParts as table_parts;
 
 use crate::live::{Origin, first_due, live_index};
 use crate::signs::Signs;
@@ -35,14 +35,14 @@ impl Model for Table {
     ghost use Rattle.spec_sessions.specs.Tables as tables;
     ghost use Rattle.std.specs.Prelude.{map};
     ghost use Rattle.sess_table.specs.Live as lives;
-    ghost use Rattle.sess_table.specs.Kept as kept;
-    ghost use Rattle.sess_table.specs.Past as pasts;
+    ghost use Rattle.sess_table.specs.TableParts as table_parts;
+    ghost use Rattle.sess_table.specs.Endings as endings;
 
     ghost Value = { tables.Table };
 
-    ghost view = { λ a. record { timeout = a.timeout; live = lives.live_in a.sessions.entries a.signs; past = map pasts.past_of a.past.entries } };
+    ghost view = { λ a. record { timeout = a.timeout; live = lives.live_in a.sessions.entries a.signs; past = map endings.past_of a.past.entries } };
 
-    ghost invariant = { λ a. kept.IsKept a.timeout a.sessions.entries a.signs a.past.entries };
+    ghost invariant = { λ a. table_parts.AreTable a.timeout a.sessions.entries a.signs a.past.entries };
 }
 
 impl Table {
@@ -71,7 +71,7 @@ impl Table {
         opening: u64,
         time: u64,
     ) -> Result<(), NoMemory>
-        requires { kept.IsNew self.old place }
+        requires { table_parts.IsNew self.old place }
         ensures ok { OnOk result (self.new ≡ tables.registered self.old place client opening time) }
         ensures err { OnErr result (self.new ≡ self.old) }
     {

@@ -1,6 +1,7 @@
 -- The state of a run: the servers with their clocks, the clients with their watches, the network, and the history.
 use Rattle.std.specs.Prelude.{ℕ, suc, Bool, true, false, ◌&&◌, nat_lt, nat_le, Option, Some, None, List, [], ◌∷◌, length, map, if◌then◌else◌}
 use Rattle.ax_types.specs.Places as lists
+use Rattle.ax_types.specs.declared.limits.TheConstants.{MAX_LOADED, MAX_LOADED_TERM}
 use Rattle.ax_types.specs.declared.entries.Act.{Act}
 use Rattle.ax_types.specs.declared.entries.Entry.{Entry}
 use Rattle.ax_types.specs.declared.entries.Loaded.{Loaded}
@@ -36,16 +37,9 @@ pub record World : Type 0 where
   pub bag : bags.Bag
   pub history : List (ℕ × Act)
 
--- the greatest term, and the most entries, of a load that counts
-unfoldable pub greatest_loaded_term : ℕ
-greatest_loaded_term = 4294967295
-
-unfoldable pub most_loaded_entries : ℕ
-most_loaded_entries = 16777215
-
--- a load above either counts as one that failed
+-- a load above the greatest term or of more than the most entries counts as one that failed
 abbrev pub is_loadable : Loaded → Bool
-is_loadable content = nat_le content.term greatest_loaded_term && nat_le (length content.log) most_loaded_entries
+is_loadable content = nat_le content.term MAX_LOADED_TERM && nat_le (length content.log) MAX_LOADED
 
 abbrev pub new_host : ℕ → ℕ → ℕ → Host
 new_host nodes timeout k = record { is_up = true; clock = 0; server = server_servers.new_server k nodes timeout; at_stake = [] }

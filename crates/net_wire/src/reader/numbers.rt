@@ -1,6 +1,6 @@
 ghost use Rattle.std.specs.Prelude.{◌≡◌, ◌≤◌, IfOk, slice_index_or};
 ghost use Rattle.spec_reading.specs.Reading as reading;
-ghost use Rattle.net_wire.specs.Given.{Gives};
+ghost use Rattle.net_wire.specs.ReaderCalls.{Gives};
 
 use super::Reader;
 use crate::Unread;

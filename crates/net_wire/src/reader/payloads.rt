@@ -2,7 +2,7 @@ ghost use Rattle.spec_reading.specs.Reading as reading;
 ghost use Rattle.spec_reading.specs.ReadReplies as read_replies;
 ghost use Rattle.spec_reading.specs.Packets as packets;
 ghost use Rattle.ax_types.specs.declared.packets.Payload.TheVariants as payload;
-ghost use Rattle.net_wire.specs.Given.{Gives};
+ghost use Rattle.net_wire.specs.ReaderCalls.{Gives};
 
 use super::Reader;
 use crate::Unread;

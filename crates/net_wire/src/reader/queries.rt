@@ -1,5 +1,5 @@
 ghost use Rattle.spec_reading.specs.ReadQueries as read_queries;
-ghost use Rattle.net_wire.specs.Given.{Gives};
+ghost use Rattle.net_wire.specs.ReaderCalls.{Gives};
 
 use super::Reader;
 use crate::Unread;

@@ -1,7 +1,7 @@
 ghost use Rattle.std.specs.Prelude.{◌++◌};
 ghost use Rattle.spec_reading.specs.Reading as reading;
 ghost use Rattle.spec_reading.specs.ReadReplies as read_replies;
-ghost use Rattle.net_wire.specs.Given.{Gives};
+ghost use Rattle.net_wire.specs.ReaderCalls.{Gives};
 
 use super::Reader;
 use crate::Unread;

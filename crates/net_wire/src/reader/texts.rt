@@ -1,6 +1,6 @@
 ghost use Rattle.std.specs.Prelude.{◌≡◌};
 ghost use Rattle.spec_reading.specs.Reading as reading;
-ghost use Rattle.net_wire.specs.Given.{Gives, form_at};
+ghost use Rattle.net_wire.specs.ReaderCalls.{Gives, form_at};
 
 use super::Reader;
 use crate::Unread;

@@ -1,6 +1,6 @@
 -- The count so far, and then that of what is left, is the count.
 use Rattle.std.proofs.Common.{◌≡◌, ◌+◌, ◌-◌, length, drop}
-use Rattle.cli_sequencer.specs.Given as given
+use Rattle.cli_sequencer.specs.GivenOut as given
 use Rattle.cli_sequencer.proofs.sequencer.Sequencer.given.Given as goal
 
 abbrev pub invariant-counted : goal.invariant-counted

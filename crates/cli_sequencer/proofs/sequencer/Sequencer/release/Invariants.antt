@@ -2,7 +2,7 @@
 use Rattle.std.proofs.Common.{◌≡◌, ◌+◌, vec_len}
 use Rattle.std.specs.Vec.{vec_capacity}
 use Rattle.spec_sequencer.specs.Sequencers as sequencers
-use Rattle.cli_sequencer.specs.Given as given
+use Rattle.cli_sequencer.specs.GivenOut as given
 use Rattle.cli_sequencer.proofs.sequencer.Sequencer.release.Given as goal
 
 abbrev pub invariant-given : goal.invariant-given

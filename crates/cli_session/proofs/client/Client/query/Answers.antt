@@ -1,12 +1,12 @@
 -- The parts fit together with one more query.
 use Rattle.std.proofs.Common.{◌+◌, ◌<◌, ◌^◌, sym, subst}
 use Rattle.cli_session.specs.Numbered as numbered
-use Rattle.cli_session.specs.State as states
+use Rattle.cli_session.specs.CountedClients as counted
 use Rattle.cli_session.proofs.Sound.{kept_queries}
 use Rattle.cli_session.proofs.client.Client.query.Goals as goal
 
 pub invariant_of-self-2 : goal.invariant_of-self-2
 invariant_of-self-2 c =
-    let room : c.self.inside.calls < 2 ^ 32 = subst (λ (s : states.CountedClient). s.calls < 2 ^ 32) (sym c.self.view_is) c.requires.room in
-    subst (λ (m : states.MovedClient). numbered.IsKept m (c.self.inside.calls + 1) c.self.inside.is_spent) (sym c.in_ok-out.ensures.after)
+    let room : c.self.inside.calls < 2 ^ 32 = subst (λ (s : counted.CountedClient). s.calls < 2 ^ 32) (sym c.self.view_is) c.requires.room in
+    subst (λ (m : counted.MovedClient). numbered.FitTogether m (c.self.inside.calls + 1) c.self.inside.is_spent) (sym c.in_ok-out.ensures.after)
     (kept_queries c.self.inside.parts c.args.level c.args.name.now c.args.query.now c.self.inside.calls c.self.inside.is_spent room c.self.invariant)

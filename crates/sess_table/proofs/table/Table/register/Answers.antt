@@ -5,7 +5,7 @@ use Rattle.std.specs.Option.{IsSome}
 use Rattle.indexmap.proofs.CallerLemmas.{insert_entry-new}
 use Rattle.spec_sessions.specs.Tables as tables
 use Rattle.sess_table.specs.declared.live.Origin.{Origin}
-use Rattle.sess_table.specs.Kept as kept
+use Rattle.sess_table.specs.TableParts as table_parts
 use Rattle.sess_table.proofs.Order.{live-push}
 use Rattle.sess_table.proofs.Changes.{fresh, past_below, kept-registered, last_popped}
 use Rattle.sess_table.proofs.table.Table.register.Goals as goal
@@ -14,7 +14,7 @@ pub invariant_of-self-in-Err : goal.invariant_of-self-in-Err
 invariant_of-self-in-Err c =
     let es : List (ℕ × Origin) = c.self.inside.sessions.entries in
     let o : Origin = record { client = c.args.client; opening = c.args.opening } in
-    let New : tables.Table → Type 0 = λ t. kept.IsNew t c.args.place in
+    let New : tables.Table → Type 0 = λ t. table_parts.IsNew t c.args.place in
     let new = subst New (sym c.self.view_is) c.requires in
     let absent : lookup (nat_eq c.args.place) es ≡ None = fresh c.self.inside.timeout es c.self.inside.signs c.self.inside.past.entries c.args.place c.self.invariant new.0 new.1 in
     let added : c.insert.new.self.entries ≡ es ++ (c.args.place, o) ∷ [] = c.in_ok-insert.ensures.entries ∙ insert_entry-new nat_eq c.self.inside.sessions c.args.place o absent in
@@ -26,7 +26,7 @@ pub returns-in-Err-clause-err : goal.returns-in-Err-clause-err
 returns-in-Err-clause-err c =
     let es : List (ℕ × Origin) = c.self.inside.sessions.entries in
     let o : Origin = record { client = c.args.client; opening = c.args.opening } in
-    let New : tables.Table → Type 0 = λ t. kept.IsNew t c.args.place in
+    let New : tables.Table → Type 0 = λ t. table_parts.IsNew t c.args.place in
     let new = subst New (sym c.self.view_is) c.requires in
     let absent : lookup (nat_eq c.args.place) es ≡ None = fresh c.self.inside.timeout es c.self.inside.signs c.self.inside.past.entries c.args.place c.self.invariant new.0 new.1 in
     let added : c.insert.new.self.entries ≡ es ++ (c.args.place, o) ∷ [] = c.in_ok-insert.ensures.entries ∙ insert_entry-new nat_eq c.self.inside.sessions c.args.place o absent in
@@ -40,7 +40,7 @@ invariant_of-self-in-Ok c =
     let ss = c.self.inside.signs in
     let past = c.self.inside.past.entries in
     let o : Origin = record { client = c.args.client; opening = c.args.opening } in
-    let New : tables.Table → Type 0 = λ t. kept.IsNew t c.args.place in
+    let New : tables.Table → Type 0 = λ t. table_parts.IsNew t c.args.place in
     let new = subst New (sym c.self.view_is) c.requires in
     let absent : lookup (nat_eq c.args.place) es ≡ None = fresh c.self.inside.timeout es ss past c.args.place c.self.invariant new.0 new.1 in
     let added : c.insert.new.self.entries ≡ es ++ (c.args.place, o) ∷ [] = c.in_ok-insert.ensures.entries ∙ insert_entry-new nat_eq c.self.inside.sessions c.args.place o absent in
@@ -52,7 +52,7 @@ returns-in-Ok-clause-ok c =
     let es : List (ℕ × Origin) = c.self.inside.sessions.entries in
     let ss = c.self.inside.signs in
     let o : Origin = record { client = c.args.client; opening = c.args.opening } in
-    let New : tables.Table → Type 0 = λ t. kept.IsNew t c.args.place in
+    let New : tables.Table → Type 0 = λ t. table_parts.IsNew t c.args.place in
     let new = subst New (sym c.self.view_is) c.requires in
     let absent : lookup (nat_eq c.args.place) es ≡ None = fresh c.self.inside.timeout es ss c.self.inside.past.entries c.args.place c.self.invariant new.0 new.1 in
     let added : c.insert.new.self.entries ≡ es ++ (c.args.place, o) ∷ [] = c.in_ok-insert.ensures.entries ∙ insert_entry-new nat_eq c.self.inside.sessions c.args.place o absent in

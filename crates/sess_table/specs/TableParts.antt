@@ -8,7 +8,7 @@ use Rattle.sess_table.specs.declared.table.Past.{Past as Ending}
 use Rattle.sess_table.specs.Live as lives
 
 -- each session has a sign or none, and those without one are the ones that ended
-pub record IsKept (timeout : ℕ) (sessions : List (ℕ × Origin)) (signs : List (Option ℕ)) (past : List (ℕ × Ending)) : Type 0 where
+pub record AreTable (timeout : ℕ) (sessions : List (ℕ × Origin)) (signs : List (Option ℕ)) (past : List (ℕ × Ending)) : Type 0 where
   pub timed : 1 ≤ timeout
   pub unique : IsDistinct nat_eq (keys_of sessions)
   pub long : length signs ≡ length sessions

@@ -4,8 +4,8 @@ use Rattle.ax_types.specs.declared.sessions.Got.{Got}
 use Rattle.spec_sequencer.specs.Sequencers as sequencers
 
 -- whether an answer is given out where its call is the first
-abbrev pub is_given : ℕ → ℕ → sequencers.Unanswered → Bool
-is_given heard read u = not (sequencers.is_stopping heard u.got) && not (sequencers.is_past read u)
+abbrev pub is_given_out : ℕ → ℕ → sequencers.Unanswered → Bool
+is_given_out heard read u = not (sequencers.is_stopping heard u.got) && not (sequencers.is_past read u)
 
 -- whether a call is asked again where it is the first
 abbrev pub is_stale : ℕ → ℕ → sequencers.Unanswered → Bool
@@ -18,7 +18,7 @@ read_after read u = if sequencers.is_query u then sequencers.place_in u.got else
 -- how many answers are given out
 abbrev pub given_in : ℕ → ℕ → List sequencers.Unanswered → ℕ
 given_in heard read [] = 0
-given_in heard read (u ∷ us) = if is_given heard read u then suc (given_in heard (read_after read u) us) else 0
+given_in heard read (u ∷ us) = if is_given_out heard read u then suc (given_in heard (read_after read u) us) else 0
 
 abbrev pub given_of : sequencers.Sequencer → ℕ
 given_of q = given_in q.heard q.read q.calls

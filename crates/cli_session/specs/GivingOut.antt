@@ -17,10 +17,10 @@ given_out session (g ∷ gots) [] = []
 given_out session (g ∷ gots) (r ∷ rs) = receipts.answer_item session g.1 r r.call ∷ given_out session gots rs
 
 -- the requests that are left
-abbrev pub left_after : List (ℕ × Got) → List clients.Request → List clients.Request
-left_after [] rs = rs
-left_after (g ∷ gots) [] = []
-left_after (g ∷ gots) (r ∷ rs) = left_after gots rs
+abbrev pub requests_after : List (ℕ × Got) → List clients.Request → List clients.Request
+requests_after [] rs = rs
+requests_after (g ∷ gots) [] = []
+requests_after (g ∷ gots) (r ∷ rs) = requests_after gots rs
 
 -- what is sent for the requests of calls that lack an answer
 abbrev pub open_payloads : clients.Client → List clients.Request → List Payload
@@ -37,7 +37,7 @@ payload_if b c r = if b then clients.payload_of c r ∷ [] else []
 -- the answers given out in order, and the query that is asked again
 abbrev pub gives : clients.Client → List Item → clients.ClientStep
 gives c first = let r = sequencers.release_of c.sequencer in
-    let d = record c { sequencer = sequencers.released c.sequencer; requests = left_after r.items c.requests } in
+    let d = record c { sequencer = sequencers.released c.sequencer; requests = requests_after r.items c.requests } in
     clients.client_step d (first ++ given_out (clients.own_session c.state) r.items c.requests) (clients.to_server d (receipts.asked_again d r.again))
 
 -- whether a call is a query
@@ -46,5 +46,5 @@ is_query_call (call.Command name o) = false
 is_query_call (call.Query level name q) = true
 
 -- what becomes of a request without an outcome when its session ends
-abbrev pub outcome_at_end : ℕ → clients.Request → Item
-outcome_at_end session r = if is_query_call r.call then item.Lost session r.number else item.Doubt session r.number
+abbrev pub item_at_end : ℕ → clients.Request → Item
+item_at_end session r = if is_query_call r.call then item.Lost session r.number else item.Doubt session r.number
