@@ -40,8 +40,9 @@ abbrev pub FitsRecord : Bool → ℕ → Record → Type 0
 FitsRecord counted entries (Vote term vote) = ranges.IsNumber term × IsVote vote
 FitsRecord counted entries (Cut last) = ranges.IsNumber last
 FitsRecord counted entries (Plain entry) = (counted ≡ false) × ranges.FitsEntry entry
-FitsRecord counted entries (Count count) = (counted ≡ false) × (count ≡ entries)
-FitsRecord counted entries (Placed place entry) = (counted ≡ true) × (place ≡ entries + 1) × ranges.FitsEntry entry
+FitsRecord counted entries (Count count) = (counted ≡ false) × (count ≡ entries) × ranges.IsNumber count
+FitsRecord counted entries (Placed place entry) =
+    (counted ≡ true) × (place ≡ entries + 1) × ranges.IsNumber place × ranges.FitsEntry entry
 
 abbrev pub vote_at : List ℕ → reading.Reading (Option ℕ)
 vote_at bytes = do

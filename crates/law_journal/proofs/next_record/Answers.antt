@@ -1,14 +1,14 @@
-use Rattle.spec_journal.proofs.Appending.{next_whole, next_own, next_part, next_wrong}
+use Rattle.law_journal.proofs.RecordByRecord.{next_whole, next_size, next_own, next_stop}
 use Rattle.law_journal.proofs.next_record.Goals as goal
 
 pub returns-clause-whole : goal.returns-clause-whole
 returns-clause-whole c = next_whole
 
-pub returns-clause-part : goal.returns-clause-part
-returns-clause-part c = next_part
-
-pub returns-clause-wrong : goal.returns-clause-wrong
-returns-clause-wrong c = next_wrong
+pub returns-clause-size : goal.returns-clause-size
+returns-clause-size c = next_size
 
 pub returns-clause-own : goal.returns-clause-own
 returns-clause-own c = next_own
+
+pub returns-clause-none : goal.returns-clause-none
+returns-clause-none c = next_stop

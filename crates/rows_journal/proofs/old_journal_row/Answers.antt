@@ -7,9 +7,9 @@ use Rattle.spec_journal.specs.Journal as journals
 use Rattle.rows_journal.proofs.old_journal_row.Goals as goal
 
 pub returns-clause-loaded : goal.returns-clause-loaded
-unfolding journals.fed records.record_at reading.u64_at reading.within_at packets.entry_at packets.body_at number_bytes.u64_bytes
+unfolding journals.read_on records.record_at reading.u64_at reading.within_at packets.entry_at packets.body_at number_bytes.u64_bytes
 returns-clause-loaded c = refl
 
 pub returns-clause-version : goal.returns-clause-version
-unfolding journals.fed records.record_at reading.u64_at reading.within_at packets.entry_at packets.body_at number_bytes.u64_bytes
+unfolding journals.read_on records.record_at reading.u64_at reading.within_at packets.entry_at packets.body_at number_bytes.u64_bytes
 returns-clause-version c = refl

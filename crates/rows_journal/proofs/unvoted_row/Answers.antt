@@ -7,5 +7,5 @@ use Rattle.spec_journal.specs.Journal as journals
 use Rattle.rows_journal.proofs.unvoted_row.Goals as goal
 
 pub returns : goal.returns
-unfolding journals.fed records.record_at reading.u64_at reading.within_at packets.entry_at packets.body_at number_bytes.u64_bytes
+unfolding journals.read_on records.record_at reading.u64_at reading.within_at packets.entry_at packets.body_at number_bytes.u64_bytes
 returns c = refl

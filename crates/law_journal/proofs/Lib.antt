@@ -1,0 +1,4 @@
+pub mod RecordsRead
+pub mod RecordByRecord
+pub mod Appended
+pub mod CallRecords

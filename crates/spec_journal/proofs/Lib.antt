@@ -1,4 +1,0 @@
-pub mod Records
-pub mod Feeding
-pub mod Appending
-pub mod Calls
