@@ -9,7 +9,7 @@ use ax_types::{Bounded, Form, Key, KeyForm, Name, NameForm, Text, TextForm};
 
 impl<'a> Reader<'a> {
     /// So many letters of a form.
-    #[tactic(auto, unfolding(crate::specs::Given::form_at))]
+    #[tactic(auto, unfolding(crate::specs::ReaderCalls::form_at))]
     fn read_form<F: Form>(&mut self, count: usize) -> Result<Bounded<F>, Unread>
         ensures { Gives result self.new (form_at F.is_form count self.old) }
     {
