@@ -89,6 +89,19 @@ impl Bag {
         hindrance(&self.links, up, &packet.from, &packet.to)
     }
 
+    /// The packet with a number, which could be delivered where these nodes are up, as for `take`, but is not marked. `NeverSent`,
+    /// `Gone`, `Cut` and `Down` say why it could not be, the first of them that holds.
+    pub fn look(&self, number: u64, up: &[bool]) -> Result<&Packet, TakeRefused>
+        ensures refused { IfErr result (λ refused. bags.take_refusal self.now (reasons.up_nodes up.now) number ≡ Some (reasons.reason_of refused)) }
+        ensures seen { OnOk result (bags.take_refusal self.now (reasons.up_nodes up.now) number ≡ None) }
+        ensures packet { IfOk result (λ packet. option_map (λ s. s.packet) (bags.kept_at self.now number) ≡ Some packet.now) }
+    {
+        if let Some(refused) = self.take_refusal(number, up) {
+            return Err(refused);
+        }
+        Ok(&self.packets.slot(number).packet)
+    }
+
     /// Marks the packet with a number, and gives it to be delivered, where these nodes are up: `up` tells it of the node 1
     /// first. `NeverSent`, `Gone`, `Cut` and `Down` say why it cannot be delivered, the first of them that holds; the bag is
     /// then unchanged.

@@ -3,8 +3,8 @@ ghost use Rattle.ax_types.specs.declared.limits.TheConstants.{MAX_NODES};
 ghost use Rattle.spec_raft.specs.Progress as progresses;
 ghost use Rattle.raft_commit.specs.Peers as peer_places;
 
-use ax_types::NodeId;
 use ax_types::limits::MAX_NODES;
+use ax_types::{Duplicate, NoMemory, NodeId};
 use raft_log::Log;
 use std::marker::Model;
 
@@ -322,5 +322,14 @@ impl Progress {
         } else {
             round
         }
+    }
+}
+
+impl Duplicate for Progress {
+    fn copy(&self) -> Result<Progress, NoMemory> {
+        Ok(Progress {
+            peers: self.peers,
+            peer_count: self.peer_count,
+        })
     }
 }

@@ -2,7 +2,7 @@ ghost use Rattle.std.specs.Prelude.{◌≡◌, ℕ, ◌↔◌, [], IsTrue, IfOk,
 ghost use Rattle.spec_raft.specs.Progress as progresses;
 
 use ax_types::limits::MAX_READS;
-use ax_types::{List, NoMemory};
+use ax_types::{Duplicate, List, NoMemory};
 use std::alloc::Global;
 use std::marker::Model;
 
@@ -112,5 +112,13 @@ impl Reads {
         ensures { IsTrue result ↔ (self.now ≡ []) }
     {
         self.waiting.is_empty()
+    }
+}
+
+impl Duplicate for Reads {
+    fn copy(&self) -> Result<Reads, NoMemory> {
+        Ok(Reads {
+            waiting: self.waiting.clone()?,
+        })
     }
 }

@@ -42,6 +42,13 @@ impl Log {
         }
     }
 
+    /// The entries. It takes no memory.
+    pub fn into_entries(self) -> List<Entry>
+        ensures { result ≡ self }
+    {
+        List::from_vec(self.entries)
+    }
+
     /// The place of the last entry, 0 where there is none.
     pub fn last(&self) -> u64
         ensures last { result ≡ length self.now }
@@ -216,6 +223,13 @@ impl Log {
             &rest[..MAX_APPEND.min(rest.len())],
         )?;
         Ok(List::from_vec(run))
+    }
+}
+
+impl Duplicate for Log {
+    fn copy(&self) -> Result<Log, NoMemory> {
+        let entries = copies(*self.entries.allocator(), self.entries.as_slice())?;
+        Ok(Log { entries })
     }
 }
 

@@ -3,7 +3,7 @@ ghost use Rattle.ax_types.specs.declared.limits.TheConstants.{MAX_NODES};
 ghost use Rattle.spec_raft.specs.Progress as progresses;
 ghost use Rattle.spec_node.specs.Node as nodes;
 
-use ax_types::{List, NoMemory, NodeId};
+use ax_types::{Duplicate, List, NoMemory, NodeId};
 use raft_commit::{Progress, Reads};
 use raft_log::Log;
 use std::alloc::Global;
@@ -65,6 +65,13 @@ impl Leading {
         ensures { result ≡ self.now.round }
     {
         self.round
+    }
+
+    /// The place of the leader's first entry.
+    pub fn first(&self) -> u64
+        ensures { result ≡ self.now.first }
+    {
+        self.first
     }
 
     /// A new round. There is none after the greatest number, which is answered as want of memory.
@@ -132,6 +139,19 @@ impl Leading {
         ensures { result ≡ progresses.commit_place self.now.peers log.now term commit }
     {
         self.peers.commit_place(log, term, commit)
+    }
+}
+
+impl Duplicate for Leading {
+    fn copy(&self) -> Result<Leading, NoMemory> {
+        Ok(Leading {
+            alloc: self.alloc,
+            first: self.first,
+            round: self.round,
+            arrivals: self.arrivals,
+            reads: self.reads.copy()?,
+            peers: self.peers.copy()?,
+        })
     }
 }
 

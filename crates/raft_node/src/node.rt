@@ -1,18 +1,18 @@
-ghost use Rattle.std.specs.Prelude.{◌≡◌, ◌≤◌, Some, length};
+ghost use Rattle.std.specs.Prelude.{◌≡◌, ◌≤◌, Some, length, max};
 ghost use Rattle.ax_types.specs.declared.limits.TheConstants.{MAX_NODES};
 ghost use Rattle.ax_types.specs.Places as lists;
 ghost use Rattle.spec_raft.specs.Log as logs;
 ghost use Rattle.spec_node.specs.Node as raft_nodes;
 
 use crate::leading::Leading;
-use ax_types::{Entry, List, Loaded, NodeId};
+use ax_types::{Duplicate, Entry, List, Loaded, NoMemory, NodeId};
 use raft_log::Log;
 use raft_vote::Ballot;
 use std::alloc::Global;
 use std::marker::Model;
 
 /// Which of the three parts a node takes (Ongaro 2014, 3.3).
-#[derive(Drop)]
+#[derive(Clone, Copy)]
 pub enum Role {
     Follower,
     Candidate,
@@ -76,6 +76,33 @@ impl RaftNode {
         }
     }
 
+    /// What the node keeps over a crash: its term, its vote and its log. It takes no memory.
+    pub fn into_kept(self) -> Loaded
+        ensures { result ≡ raft_nodes.kept_of self }
+    {
+        Loaded {
+            term: self.ballot.term(),
+            vote: self.ballot.vote(),
+            log: self.log.into_entries(),
+        }
+    }
+
+    /// The node's number.
+    pub fn me(&self) -> NodeId
+        ensures me { result ≡ self.now.ballot.me }
+        ensures member { result ≤ self.now.ballot.nodes }
+    {
+        self.ballot.me()
+    }
+
+    /// How many nodes the cluster has.
+    pub fn nodes(&self) -> u8
+        ensures nodes { result ≡ self.now.ballot.nodes }
+        ensures within { result ≤ MAX_NODES }
+    {
+        self.ballot.nodes()
+    }
+
     /// The term.
     pub fn term(&self) -> u64
         ensures { result ≡ self.now.ballot.term }
@@ -112,6 +139,21 @@ impl RaftNode {
         self.commit
     }
 
+    /// The round of a leader, 0 where the node does not lead (Ongaro 2014, 6.4).
+    pub fn round(&self) -> u64
+        ensures { result ≡ self.now.leading.round }
+    {
+        self.leading.round()
+    }
+
+    /// The place that a read must see which arrives now: the greater of the commit and the leader's first place
+    /// (Ongaro 2014, 6.4).
+    pub fn read_place(&self) -> u64
+        ensures { result ≡ max self.now.commit self.now.leading.first }
+    {
+        self.commit.max(self.leading.first())
+    }
+
     /// The time of the last entry, 0 where there is none.
     pub fn last_time(&self) -> u64
         ensures { result ≡ logs.last_time self.now.log }
@@ -133,5 +175,19 @@ impl RaftNode {
         ensures { result ≡ raft_nodes.time_for self.now clock }
     {
         clock.max(self.log.last_time())
+    }
+}
+
+impl Duplicate for RaftNode {
+    fn copy(&self) -> Result<RaftNode, NoMemory> {
+        Ok(RaftNode {
+            alloc: self.alloc,
+            ballot: self.ballot.copy()?,
+            log: self.log.copy()?,
+            role: self.role,
+            leader: self.leader,
+            commit: self.commit,
+            leading: self.leading.copy()?,
+        })
     }
 }

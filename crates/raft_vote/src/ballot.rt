@@ -3,8 +3,8 @@ ghost use Rattle.ax_types.specs.declared.limits.TheConstants.{MAX_NODES};
 ghost use Rattle.spec_raft.specs.Majority as counts;
 ghost use Rattle.spec_raft.specs.Ballot as ballots;
 
-use ax_types::NodeId;
 use ax_types::limits::MAX_NODES;
+use ax_types::{Duplicate, NoMemory, NodeId};
 use raft_log::Log;
 use std::marker::Model;
 
@@ -170,5 +170,18 @@ impl Ballot {
         ensures { result ≡ ballots.is_elected self.now }
     {
         self.voter_count + self.voter_count > self.nodes as usize
+    }
+}
+
+impl Duplicate for Ballot {
+    fn copy(&self) -> Result<Ballot, NoMemory> {
+        Ok(Ballot {
+            me: self.me,
+            nodes: self.nodes,
+            term: self.term,
+            vote: self.vote,
+            voters: self.voters,
+            voter_count: self.voter_count,
+        })
     }
 }

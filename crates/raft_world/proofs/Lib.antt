@@ -1,0 +1,7 @@
+pub mod Senders
+pub mod Between
+pub mod Pairing
+pub mod Taking
+pub mod Making
+pub mod Agreeing
+pub mod Saved
