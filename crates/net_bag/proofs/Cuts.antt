@@ -7,7 +7,7 @@ use Rattle.std.proofs.lemmas.List.{take_more_set, length-replicate}
 use Rattle.std.specs.List.{list_any}
 use Rattle.ax_types.specs.declared.ids.End.{End}
 use Rattle.spec_cluster.specs.Bag as bags
-use Rattle.net_bag.specs.Ends as ends
+use Rattle.net_bag.specs.EndNumbers as ends
 use Rattle.net_bag.specs.Links as cut_links
 use Rattle.net_bag.proofs.Numbers.{end_small, between_number, between_same, between-self}
 use Rattle.net_bag.proofs.Flags.{not_true, get-replicate, get-set_same, get-set_other, any-push, any-without, any-beside, true_count, count-set_true, count-set_false, count-set_still, count_room, count_most, filter_most, filter_fewer}

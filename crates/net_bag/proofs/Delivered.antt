@@ -18,9 +18,9 @@ use Rattle.net_bag.proofs.First.{next_first}
 
 -- the next packet of a flush
 pub next_of : (packets : bags.Bag) (links : List bags.Link) (bag : bags.Bag) (up : List Bool) (ways : List way_lists.Way) → record { sent = packets.sent; kept = packets.kept; cuts = links } ≡ bag
-    → way_fronts.AreFronts (suc (bags.gone packets)) packets.kept ways → way_fronts.first_among links up None ways ≡ bags.next_up bag (reasons.up_nodes up)
+    → way_fronts.AreFronts (suc (bags.gone packets)) packets.kept ways → way_fronts.first_among links up None ways ≡ bags.next_up bag (reasons.nodes_up up)
 next_of packets links bag up ways e h =
-    let P : bags.Bag → Type 0 = λ b. way_fronts.first_among links up None ways ≡ bags.next_up b (reasons.up_nodes up) in
+    let P : bags.Bag → Type 0 = λ b. way_fronts.first_among links up None ways ≡ bags.next_up b (reasons.nodes_up up) in
     subst P e (next_first (record { sent = packets.sent; kept = packets.kept; cuts = links }) links up ways refl h)
 
 -- a packet is marked

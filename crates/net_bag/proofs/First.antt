@@ -7,7 +7,7 @@ use Rattle.ax_types.specs.declared.ids.End.{End}
 use Rattle.ax_types.specs.declared.packets.Packet.{Packet}
 use Rattle.spec_cluster.specs.Bag as bags
 use Rattle.net_bag.specs.Ways as way_lists
-use Rattle.net_bag.specs.Packets as kept_packets
+use Rattle.net_bag.specs.KeptPackets as kept_packets
 use Rattle.net_bag.specs.Reasons as reasons
 use Rattle.net_bag.specs.Fronts as fronts
 use Rattle.net_bag.proofs.Waiting.{goes_same}
@@ -129,7 +129,7 @@ among_such cuts up n slots t best (w ∷ ways) e h =
     ∙ first_same (λ p. (t p || goes_up cuts up p w) || list_any (goes_up cuts up p) ways) (λ p. t p || (goes_up cuts up p w || list_any (goes_up cuts up p) ways)) (λ p. or_last (t p) (goes_up cuts up p w) (list_any (goes_up cuts up p) ways)) n slots
 
 -- what hinders a packet hinders its way
-hindered : (cuts : List bags.Link) (bag : bags.Bag) (up : List Bool) (p : Packet) (w : way_lists.Way) → bag.cuts ≡ cuts → way_lists.goes p w ≡ true → bags.hindrance bag (reasons.up_nodes up) p ≡ reasons.way_hindrance cuts up w.«from» w.to
+hindered : (cuts : List bags.Link) (bag : bags.Bag) (up : List Bool) (p : Packet) (w : way_lists.Way) → bag.cuts ≡ cuts → way_lists.goes p w ≡ true → bags.hindrance bag (reasons.nodes_up up) p ≡ reasons.way_hindrance cuts up w.«from» w.to
 hindered cuts bag up p w e on =
     let same = goes_same p.«from» p.to p w refl refl on in
     ap (λ (cs : List bags.Link). reasons.way_hindrance cs up p.«from» p.to) e
@@ -138,11 +138,11 @@ hindered cuts bag up p w e on =
 
 -- a packet that goes on a way is unhindered where one of its ways is
 up_somewhere : (cuts : List bags.Link) (bag : bags.Bag) (up : List Bool) (p : Packet) → bag.cuts ≡ cuts → (ways : List way_lists.Way) → list_any (way_lists.goes p) ways ≡ true
-    → list_any (goes_up cuts up p) ways ≡ bags.is_unhindered (bags.hindrance bag (reasons.up_nodes up) p)
+    → list_any (goes_up cuts up p) ways ≡ bags.is_unhindered (bags.hindrance bag (reasons.nodes_up up) p)
 up_somewhere cuts bag up p e ways h = same ways ∙ ap (λ b. free && b) h ∙ last free
   where
     free : Bool
-    free = bags.is_unhindered (bags.hindrance bag (reasons.up_nodes up) p)
+    free = bags.is_unhindered (bags.hindrance bag (reasons.nodes_up up) p)
 
     last : (b : Bool) → b && true ≡ b
     last true = refl
@@ -181,8 +181,8 @@ first_served t u ways same n (s ∷ slots) h =
 
 -- the packet that a flush delivers next
 pub next_first : (bag : bags.Bag) (cuts : List bags.Link) (up : List Bool) (ways : List way_lists.Way) → bag.cuts ≡ cuts → fronts.AreFronts (suc (bags.gone bag)) bag.kept ways
-    → fronts.first_among cuts up None ways ≡ bags.next_up bag (reasons.up_nodes up)
+    → fronts.first_among cuts up None ways ≡ bags.next_up bag (reasons.nodes_up up)
 next_first bag cuts up ways e h =
     among_such cuts up (suc (bags.gone bag)) bag.kept (λ p. false) None ways (sym (first_none (suc (bags.gone bag)) bag.kept)) h.fronts
-    ∙ first_served (λ p. list_any (goes_up cuts up p) ways) (λ p. bags.is_unhindered (bags.hindrance bag (reasons.up_nodes up) p)) ways (λ p on. up_somewhere cuts bag up p e ways on) (suc (bags.gone bag)) bag.kept h.served
-    ∙ sym (first_up_such bag (reasons.up_nodes up) (suc (bags.gone bag)) bag.kept)
+    ∙ first_served (λ p. list_any (goes_up cuts up p) ways) (λ p. bags.is_unhindered (bags.hindrance bag (reasons.nodes_up up) p)) ways (λ p on. up_somewhere cuts bag up p e ways on) (suc (bags.gone bag)) bag.kept h.served
+    ∙ sym (first_up_such bag (reasons.nodes_up up) (suc (bags.gone bag)) bag.kept)

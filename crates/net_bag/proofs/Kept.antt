@@ -7,7 +7,7 @@ use Rattle.spec_raft.specs.Positions as positions
 use Rattle.spec_raft.proofs.Placing.{length-change_place}
 use Rattle.spec_cluster.specs.Bag as bags
 use Rattle.net_bag.specs.Ways as way_lists
-use Rattle.net_bag.specs.Packets as kept_packets
+use Rattle.net_bag.specs.KeptPackets as kept_packets
 use Rattle.net_bag.specs.Fronts as way_fronts
 use Rattle.net_bag.proofs.Waiting.{marked, count_marked, packets_marked}
 use Rattle.net_bag.proofs.Sending.{packets_more, packets_way, packets_fewer}
@@ -41,14 +41,14 @@ pub some_left : (sent gone i unmarked : ℕ) (slots : List bags.KeptPacket) (s :
 some_left sent gone i unmarked slots s ways e m h = let c = count_marked (suc gone) i slots s e m in omega (arith, c, h.counted)
 
 pub marked_packet : (sent gone i unmarked j : ℕ) (slots after : List bags.KeptPacket) (s : bags.KeptPacket) (ways trimmed_ways : List way_lists.Way) → gone ≡ sent - length slots → slice_get slots i ≡ Some s → s.is_marked ≡ false → after ≡ positions.change_place marked slots (suc i)
-    → way_lists.IsPlaceOf ways s.packet.«from» s.packet.to j → trimmed_ways ≡ positions.change_place (way_lists.trimmed (way_lists.open_at gone after)) ways (suc j)
+    → way_lists.IsPlaceOf ways s.packet.«from» s.packet.to j → trimmed_ways ≡ positions.change_place (way_lists.without_front (way_lists.open_at gone after)) ways (suc j)
     → kept_packets.ArePackets sent (sent - length slots) slots unmarked ways → kept_packets.ArePackets sent (sent - length after) after (unmarked - 1) trimmed_ways
 marked_packet sent gone i unmarked j slots after s ways trimmed_ways r e m f place g h =
     let G : ℕ → Type 0 = λ n. kept_packets.ArePackets sent n slots unmarked ways in
     let some : 1 ≤ unmarked = some_left sent (sent - length slots) i unmarked slots s ways e m h in
     let less : suc (unmarked - 1) ≡ unmarked = omega (arith, some) in
     let rest : gone ≡ sent - length after = omega (arith, r, ap length f, length-change_place marked slots (suc i)) in
-    let K : List bags.KeptPacket → Type 0 = λ ks. kept_packets.ArePackets sent gone ks (unmarked - 1) (positions.change_place (way_lists.trimmed (way_lists.open_at gone ks)) ways (suc j)) in
+    let K : List bags.KeptPacket → Type 0 = λ ks. kept_packets.ArePackets sent gone ks (unmarked - 1) (positions.change_place (way_lists.without_front (way_lists.open_at gone ks)) ways (suc j)) in
     let W : List way_lists.Way → Type 0 = λ ws. kept_packets.ArePackets sent gone after (unmarked - 1) ws in
     let R : ℕ → Type 0 = λ n. kept_packets.ArePackets sent n after (unmarked - 1) trimmed_ways in
     subst R rest (subst W (sym g) (subst K (sym f) (packets_marked sent gone i unmarked (unmarked - 1) j slots s ways e m less place (subst G (sym r) h))))

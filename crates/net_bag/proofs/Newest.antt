@@ -11,7 +11,7 @@ use Rattle.spec_raft.specs.Positions as positions
 use Rattle.spec_raft.proofs.Placing.{length-change_place}
 use Rattle.spec_cluster.specs.Bag as bags
 use Rattle.net_bag.specs.Ways as way_lists
-use Rattle.net_bag.specs.Packets as kept_packets
+use Rattle.net_bag.specs.KeptPackets as kept_packets
 use Rattle.net_bag.specs.Reasons as reasons
 use Rattle.net_bag.proofs.Waiting.{marked}
 use Rattle.net_bag.proofs.Sending.{any_same, on_ends}

@@ -4,7 +4,7 @@ use Rattle.std.proofs.lemmas.Bool.Decides.{nat_tests}
 use Rattle.ax_types.specs.declared.ids.End.{End}
 use Rattle.ax_types.specs.declared.ids.End.TheVariants as end
 use Rattle.spec_cluster.specs.Bag as bags
-use Rattle.net_bag.specs.Ends as ends
+use Rattle.net_bag.specs.EndNumbers as ends
 
 pub end_small : (a : End) → ends.IsEnd a → ends.end_number a < 25
 end_small (end.Node k) h = omega (arith, h.0, h.1)

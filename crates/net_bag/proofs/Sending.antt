@@ -13,7 +13,7 @@ use Rattle.ax_types.specs.declared.packets.Packet.{Packet}
 use Rattle.spec_raft.specs.Positions as positions
 use Rattle.spec_cluster.specs.Bag as bags
 use Rattle.net_bag.specs.Ways as way_lists
-use Rattle.net_bag.specs.Packets as kept_packets
+use Rattle.net_bag.specs.KeptPackets as kept_packets
 use Rattle.net_bag.proofs.Numbers.{same_end-true, same_end-refl, both}
 use Rattle.net_bag.proofs.Flags.{not_true}
 use Rattle.net_bag.proofs.Table.{get-last, get-push, get-before, is_from-same, any-at, any-none, any-place}
@@ -49,8 +49,8 @@ place_before (t ∷ slots) s (suc zero) h = refl
 place_before (t ∷ slots) s (suc (suc q)) h = place_before slots s (suc q) (omega (arith, h))
 
 -- a packet is sent on a way, or not
-indexed_on : (sent gone : ℕ) (slots : List bags.KeptPacket) (p : Packet) (w : way_lists.Way) → length slots ≤ sent → gone ≡ sent - length slots → way_lists.goes p w ≡ true → kept_packets.IsIndexed sent gone slots w
-    → kept_packets.IsIndexed (suc sent) gone (slots ++ record { is_marked = false; packet = p } ∷ []) (way_lists.with_number (suc sent) w)
+indexed_on : (sent gone : ℕ) (slots : List bags.KeptPacket) (p : Packet) (w : way_lists.Way) → length slots ≤ sent → gone ≡ sent - length slots → way_lists.goes p w ≡ true → kept_packets.IsWayIndexed sent gone slots w
+    → kept_packets.IsWayIndexed (suc sent) gone (slots ++ record { is_marked = false; packet = p } ∷ []) (way_lists.with_number (suc sent) w)
 indexed_on sent gone slots p w within rest on h =
     let s : bags.KeptPacket = record { is_marked = false; packet = p } in
     let test : ℕ → Bool = way_lists.open_at gone (slots ++ s ∷ []) in
@@ -60,12 +60,12 @@ indexed_on sent gone slots p w within rest on h =
     ∙ ap (λ c. way_lists.numbers_on w.«from» w.to (suc gone) slots ++ cond c ((suc gone + length slots) ∷ []) []) on
     ∙ ap (λ k. way_lists.numbers_on w.«from» w.to (suc gone) slots ++ k ∷ []) number in
     let last : test (suc sent) ≡ true =
-    ap (λ q. way_lists.is_open (lists.at_place (slots ++ s ∷ []) q)) (let e : suc sent - gone ≡ suc (length slots) = omega (arith, within, rest) in e)
-    ∙ ap way_lists.is_open (get-last slots s) in
+    ap (λ q. way_lists.is_waiting (lists.at_place (slots ++ s ∷ []) q)) (let e : suc sent - gone ≡ suc (length slots) = omega (arith, within, rest) in e)
+    ∙ ap way_lists.is_waiting (get-last slots s) in
     let waits : filter test (w.waiting ++ suc sent ∷ []) ≡ way_lists.numbers_on w.«from» w.to (suc gone) (slots ++ s ∷ []) =
     filter-append test w.waiting (suc sent ∷ [])
     ∙ ap (λ c. filter test w.waiting ++ cond c (suc sent ∷ []) []) last
-    ∙ ap (λ (ns : List ℕ). ns ++ suc sent ∷ []) (filter_given sent test (way_lists.open_at gone slots) (λ n le. ap way_lists.is_open (place_before slots s (n - gone) (omega (arith, le, within, rest)))) w.waiting h.given ∙ h.waits)
+    ∙ ap (λ (ns : List ℕ). ns ++ suc sent ∷ []) (filter_given sent test (way_lists.open_at gone slots) (λ n le. ap way_lists.is_waiting (place_before slots s (n - gone) (omega (arith, le, within, rest)))) w.waiting h.given ∙ h.waits)
     ∙ sym numbers in
     record {
       given = given_push (suc sent) (suc sent) w.waiting (omega arith) (given_more sent w.waiting h.given);
@@ -73,8 +73,8 @@ indexed_on sent gone slots p w within rest on h =
       front = front_push w.waiting (way_lists.numbers_on w.«from» w.to (suc gone) slots) (suc sent) h.front ∙ ap (λ (ns : List ℕ). slice_get ns 0) (sym numbers);
     }
 
-indexed_off : (sent gone : ℕ) (slots : List bags.KeptPacket) (p : Packet) (w : way_lists.Way) → length slots ≤ sent → gone ≡ sent - length slots → way_lists.goes p w ≡ false → kept_packets.IsIndexed sent gone slots w
-    → kept_packets.IsIndexed (suc sent) gone (slots ++ record { is_marked = false; packet = p } ∷ []) w
+indexed_off : (sent gone : ℕ) (slots : List bags.KeptPacket) (p : Packet) (w : way_lists.Way) → length slots ≤ sent → gone ≡ sent - length slots → way_lists.goes p w ≡ false → kept_packets.IsWayIndexed sent gone slots w
+    → kept_packets.IsWayIndexed (suc sent) gone (slots ++ record { is_marked = false; packet = p } ∷ []) w
 indexed_off sent gone slots p w within rest off h =
     let s : bags.KeptPacket = record { is_marked = false; packet = p } in
     let test : ℕ → Bool = way_lists.open_at gone (slots ++ s ∷ []) in
@@ -84,7 +84,7 @@ indexed_off sent gone slots p w within rest off h =
     ∙ append-nil (way_lists.numbers_on w.«from» w.to (suc gone) slots) in
     record {
       given = given_more sent w.waiting h.given;
-      waits = filter_given sent test (way_lists.open_at gone slots) (λ n le. ap way_lists.is_open (place_before slots s (n - gone) (omega (arith, le, within, rest)))) w.waiting h.given ∙ h.waits ∙ sym numbers;
+      waits = filter_given sent test (way_lists.open_at gone slots) (λ n le. ap way_lists.is_waiting (place_before slots s (n - gone) (omega (arith, le, within, rest)))) w.waiting h.given ∙ h.waits ∙ sym numbers;
       front = h.front ∙ ap (λ (ns : List ℕ). slice_get ns 0) (sym numbers);
     }
 
@@ -116,7 +116,7 @@ packets_more sent gone unmarked j slots p ways place h =
             let w : way_lists.Way = t.1.0 in
             let same : w ≡ place.there.0 = same_Some w place.there.0 (sym t.1.1 ∙ ap (slice_get ways) t.0 ∙ place.there.1) in
             let on : way_lists.goes p w ≡ true = goes_there p w (ap (λ (u : way_lists.Way). u.«from») same ∙ place.there.2) (ap (λ (u : way_lists.Way). u.to) same ∙ place.there.3) in
-            let P : way_lists.Way → Type 0 = kept_packets.IsIndexed (suc sent) gone (slots ++ s ∷ []) in
+            let P : way_lists.Way → Type 0 = kept_packets.IsWayIndexed (suc sent) gone (slots ++ s ∷ []) in
             subst P (sym t.1.2) (indexed_on sent gone slots p w h.within h.rest on (h.indexed k w t.1.1))
         | inr t ↦ indexed_off sent gone slots p v h.within h.rest (not_true (way_lists.goes p v) (λ on. let same = goes_same p.«from» p.to p v refl refl on in t.0 (place.only k v t.1 same.0 same.1))) (h.indexed k v t.1)
       ];
@@ -181,7 +181,7 @@ packets_way sent gone unmarked slots a b ways h = step (list_any (way_lists.is_f
       counted = h.counted;
       indexed = λ k v g. elim (get-push ways new v k g) [
         | inl old ↦ h.indexed k v old
-        | inr last ↦ let P : way_lists.Way → Type 0 = kept_packets.IsIndexed sent gone slots in subst P last.1 (record {
+        | inr last ↦ let P : way_lists.Way → Type 0 = kept_packets.IsWayIndexed sent gone slots in subst P last.1 (record {
           given = tt;
           waits = sym (unserved a b (suc gone) ways slots e h.served);
           front = ap (λ (ns : List ℕ). slice_get ns 0) (sym (unserved a b (suc gone) ways slots e h.served));
@@ -196,7 +196,7 @@ packets_fewer sent gone unmarked s slots ways m h = record {
   within = omega (arith, h.within);
   rest = omega (arith, h.within, h.rest);
   counted = h.counted ∙ ap (λ b. length (cond b (bags.unmarked_from (suc (suc gone)) slots) ((suc gone, s.packet) ∷ bags.unmarked_from (suc (suc gone)) slots))) m;
-  indexed = λ k v g. let old : kept_packets.IsIndexed sent gone (s ∷ slots) v = h.indexed k v g in record {
+  indexed = λ k v g. let old : kept_packets.IsWayIndexed sent gone (s ∷ slots) v = h.indexed k v g in record {
     given = old.given;
     waits = filter_given sent (way_lists.open_at (suc gone) slots) (way_lists.open_at gone (s ∷ slots)) (λ n le. shifted n (n - gone) refl) v.waiting old.given ∙ old.waits ∙ numbers v;
     front = old.front ∙ ap (λ (ns : List ℕ). slice_get ns 0) (numbers v);
@@ -207,7 +207,7 @@ packets_fewer sent gone unmarked s slots ways m h = record {
     numbers : (v : way_lists.Way) → way_lists.numbers_on v.«from» v.to (suc gone) (s ∷ slots) ≡ way_lists.numbers_on v.«from» v.to (suc (suc gone)) slots
     numbers v = ap (λ b. cond (not b && way_lists.is_on v.«from» v.to s.packet) (suc gone ∷ way_lists.numbers_on v.«from» v.to (suc (suc gone)) slots) (way_lists.numbers_on v.«from» v.to (suc (suc gone)) slots)) m
 
-    shifted : (n q : ℕ) → q ≡ n - gone → way_lists.is_open (lists.at_place slots (n - suc gone)) ≡ way_lists.is_open (lists.at_place (s ∷ slots) q)
-    shifted n zero e = ap (λ k. way_lists.is_open (lists.at_place slots k)) (let d : n - suc gone ≡ 0 = omega (arith, e) in d)
-    shifted n (suc zero) e = ap (λ k. way_lists.is_open (lists.at_place slots k)) (let d : n - suc gone ≡ 0 = omega (arith, e) in d) ∙ sym (ap not m)
-    shifted n (suc (suc k)) e = ap (λ j. way_lists.is_open (lists.at_place slots j)) (let d : n - suc gone ≡ suc k = omega (arith, e) in d)
+    shifted : (n q : ℕ) → q ≡ n - gone → way_lists.is_waiting (lists.at_place slots (n - suc gone)) ≡ way_lists.is_waiting (lists.at_place (s ∷ slots) q)
+    shifted n zero e = ap (λ k. way_lists.is_waiting (lists.at_place slots k)) (let d : n - suc gone ≡ 0 = omega (arith, e) in d)
+    shifted n (suc zero) e = ap (λ k. way_lists.is_waiting (lists.at_place slots k)) (let d : n - suc gone ≡ 0 = omega (arith, e) in d) ∙ sym (ap not m)
+    shifted n (suc (suc k)) e = ap (λ j. way_lists.is_waiting (lists.at_place slots j)) (let d : n - suc gone ≡ suc k = omega (arith, e) in d)

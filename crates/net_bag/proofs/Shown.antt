@@ -9,7 +9,7 @@ use Rattle.spec_raft.specs.Majority as majorities
 use Rattle.std.proofs.lemmas.List.{take_min}
 use Rattle.spec_cluster.specs.Bag as bags
 use Rattle.net_bag.specs.Ways as way_lists
-use Rattle.net_bag.specs.Packets as kept_packets
+use Rattle.net_bag.specs.KeptPackets as kept_packets
 use Rattle.net_bag.specs.Reasons as reasons
 
 apart : (x y : ℕ) → x < y → nat_eq x y ≡ false
@@ -43,7 +43,7 @@ up_from a (suc i) k (b ∷ flags) e = step b (up_from (suc a) i k flags (omega (
     step false g = g
 
 -- whether a node is up, by its flag
-pub up_at : (flags : List Bool) (k : ℕ) → 1 ≤ k → majorities.is_in (reasons.up_nodes flags) k ≡ get_or flags (k - 1) false
+pub up_at : (flags : List Bool) (k : ℕ) → 1 ≤ k → majorities.is_in (reasons.nodes_up flags) k ≡ get_or flags (k - 1) false
 up_at flags k h = up_from 1 (k - 1) k flags (omega (arith, h))
 
 -- one more packet is shown, or passed over
@@ -75,7 +75,7 @@ show_all most n items rest whole le h =
     let none : most - length items ≡ 0 = omega (arith, le) in
     sym (ap (λ k. items ++ map bags.pending_item (take k (bags.unmarked_from n rest))) none ∙ append-nil items) ∙ h
 
-pub up_past : (flags : List Bool) (k : ℕ) → 1 ≤ k → length flags ≤ k - 1 → majorities.is_in (reasons.up_nodes flags) k ≡ false
+pub up_past : (flags : List Bool) (k : ℕ) → 1 ≤ k → length flags ≤ k - 1 → majorities.is_in (reasons.nodes_up flags) k ≡ false
 up_past flags k h past = up_at flags k h ∙ none flags (k - 1) past
   where
     none : (fs : List Bool) (i : ℕ) → length fs ≤ i → get_or fs i false ≡ false
@@ -90,7 +90,7 @@ show_step most n m items s rest whole true e lt next h = show_skip most n m item
 show_step most n m items s rest whole false e lt next h = show_more most n m items s rest whole lt e next h
 
 -- the next packet is shown
-pub show_next : (most gone i number : ℕ) (kept : List bags.KeptPacket) (s : bags.KeptPacket) (items after whole : List Item) → s ≡ get_or kept i s → i < length kept → length items < most → number ≡ gone + i + 1 → after ≡ kept_packets.with_shown items number s
+pub show_next : (most gone i number : ℕ) (kept : List bags.KeptPacket) (s : bags.KeptPacket) (items after whole : List Item) → s ≡ get_or kept i s → i < length kept → length items < most → number ≡ gone + i + 1 → after ≡ kept_packets.with_pending items number s
     → items ++ map bags.pending_item (take (most - length items) (bags.unmarked_from (suc (gone + i)) (drop i kept))) ≡ whole
     → after ++ map bags.pending_item (take (most - length after) (bags.unmarked_from (suc (gone + (i + 1))) (drop (i + 1) kept))) ≡ whole
 show_next most gone i number kept s items after whole e within lt f g h =

@@ -8,7 +8,7 @@ use Rattle.std.proofs.lemmas.List.{length-replicate, length-map}
 use Rattle.ax_types.specs.declared.ids.End.{End}
 use Rattle.spec_raft.specs.Positions as positions
 use Rattle.spec_cluster.specs.Bag as bags
-use Rattle.net_bag.specs.Ends as ends
+use Rattle.net_bag.specs.EndNumbers as ends
 use Rattle.net_bag.specs.Ways as way_lists
 use Rattle.net_bag.proofs.Numbers.{end_small, way_same, same_end-true, same_end-refl, both}
 use Rattle.net_bag.proofs.Flags.{get-set_same, get-set_other, get-replicate, not_true}
@@ -53,7 +53,7 @@ is_from-true a b w e = let p = both (bags.same_end a w.«from») (bags.same_end 
 pub is_from-same : (a b : End) (w : way_lists.Way) → w.«from» ≡ a → w.to ≡ b → way_lists.is_from a b w ≡ true
 is_from-same a b w e f = rw (e, f, same_end-refl a, same_end-refl b)
 
-number_same : (a b : End) (w : way_lists.Way) → w.«from» ≡ a → w.to ≡ b → way_lists.number_of w ≡ ends.way_number a b
+number_same : (a b : End) (w : way_lists.Way) → w.«from» ≡ a → w.to ≡ b → way_lists.number_of_way w ≡ ends.way_number a b
 number_same a b w e f = ap (λ (x : End). ends.way_number x w.to) e ∙ ap (λ (y : End). ends.way_number a y) f
 
 way_split : (x y : ℕ) → x < 25 → y < 25 → 25 * x + y < 625
@@ -62,18 +62,18 @@ way_split x y hx hy = omega arith
 pub way_small : (a b : End) → ends.IsEnd a → ends.IsEnd b → ends.way_number a b < 625
 way_small a b ha hb = way_split (ends.end_number a) (ends.end_number b) (end_small a ha) (end_small b hb)
 
-found_at : (ways : List way_lists.Way) (a b : End) (i k : ℕ) (o : Option way_lists.Way) → o ≡ slice_get ways i → option_map way_lists.number_of o ≡ Some k → k ≡ ends.way_number a b → ends.IsEnd a → ends.IsEnd b
+found_at : (ways : List way_lists.Way) (a b : End) (i k : ℕ) (o : Option way_lists.Way) → o ≡ slice_get ways i → option_map way_lists.number_of_way o ≡ Some k → k ≡ ends.way_number a b → ends.IsEnd a → ends.IsEnd b
     → ((j : ℕ) (w : way_lists.Way) → slice_get ways j ≡ Some w → way_lists.IsWay w)
     → (w : way_lists.Way) × (slice_get ways i ≡ Some w) × (w.«from» ≡ a) × (w.to ≡ b)
 found_at ways a b i k None e h f ha hb real = absurd (let c : None ≡ Some k = h in cc)
 found_at ways a b i k (Some w) e h f ha hb real =
     let ready : way_lists.IsWay w = real i w (sym e) in
-    let same : way_lists.number_of w ≡ ends.way_number a b = same_Some _ _ h ∙ f in
+    let same : way_lists.number_of_way w ≡ ends.way_number a b = same_Some _ _ h ∙ f in
     let parts : (w.«from» ≡ a) × (w.to ≡ b) = way_same w.«from» w.to a b ready.0 ready.1 ha hb same in
     (w, sym e, parts.0, parts.1)
 
 placed_at : (ways : List way_lists.Way) (places : List ℕ) (a b : End) (k j : ℕ) (w : way_lists.Way) → way_lists.AreWays ways places → k ≡ ends.way_number a b → slice_get ways j ≡ Some w → w.«from» ≡ a → w.to ≡ b → slice_get places k ≡ Some (suc j)
-placed_at ways places a b k j w h e f g1 g2 = h.placed j k (slice_get-map way_lists.number_of ways j ∙ ap (option_map way_lists.number_of) f ∙ ap Some (number_same a b w g1 g2 ∙ sym e))
+placed_at ways places a b k j w h e f g1 g2 = h.placed j k (slice_get-map way_lists.number_of_way ways j ∙ ap (option_map way_lists.number_of_way) f ∙ ap Some (number_same a b w g1 g2 ∙ sym e))
 
 -- the place that the table has
 pub place_there : (ways : List way_lists.Way) (places : List ℕ) (a b : End) (k : ℕ) → way_lists.AreWays ways places → ends.IsEnd a → ends.IsEnd b → k ≡ ends.way_number a b → 0 < get_or places k 0 → way_lists.IsPlaceOf ways a b (get_or places k 0 - 1)
@@ -81,9 +81,9 @@ place_there ways places a b k h ha hb e some =
     let within : k < length places = omega (arith, e, way_small a b ha hb, h.place_count) in
     let place : slice_get places k ≡ Some (get_or places k 0) = slice_get-get_or places k 0 within in
     let same : get_or places k 0 ≡ suc (get_or places k 0 - 1) = omega (arith, some) in
-    let found : slice_get (map way_lists.number_of ways) (get_or places k 0 - 1) ≡ Some k = h.found (get_or places k 0 - 1) k (place ∙ ap Some same) in
+    let found : slice_get (map way_lists.number_of_way ways) (get_or places k 0 - 1) ≡ Some k = h.found (get_or places k 0 - 1) k (place ∙ ap Some same) in
     record {
-      there = found_at ways a b (get_or places k 0 - 1) k (slice_get ways (get_or places k 0 - 1)) refl (sym (slice_get-map way_lists.number_of ways (get_or places k 0 - 1)) ∙ found) e ha hb h.real;
+      there = found_at ways a b (get_or places k 0 - 1) k (slice_get ways (get_or places k 0 - 1)) refl (sym (slice_get-map way_lists.number_of_way ways (get_or places k 0 - 1)) ∙ found) e ha hb h.real;
       only = λ j w f g1 g2. let q : suc j ≡ get_or places k 0 = same_Some _ _ (sym (placed_at ways places a b k j w h e f g1 g2) ∙ place) in omega (arith, q);
     }
 
@@ -123,29 +123,29 @@ ways_more ways places a b k h ha hb e none =
     let within : k < length places = omega (arith, e, way_small a b ha hb, h.place_count) in
     let free : slice_get places k ≡ Some 0 = slice_get-get_or places k 0 within ∙ ap Some none in
     let new : way_lists.Way = record { «from» = a; to = b; waiting = [] } in
-    let mapped : map way_lists.number_of (ways ++ new ∷ []) ≡ map way_lists.number_of ways ++ way_lists.number_of new ∷ [] = map-push way_lists.number_of ways new in
+    let mapped : map way_lists.number_of_way (ways ++ new ∷ []) ≡ map way_lists.number_of_way ways ++ way_lists.number_of_way new ∷ [] = map-push way_lists.number_of_way ways new in
     record {
       place_count = length-set places k (length ways + 1) ∙ h.place_count;
       real = λ i w g. elim (get-push ways new w i g) [
         | inl old ↦ h.real i w old
         | inr last ↦ let P : way_lists.Way → Type 0 = way_lists.IsWay in subst P last.1 (ha, hb)
       ];
-      placed = λ i m g. elim (get-push (map way_lists.number_of ways) (way_lists.number_of new) m i (sym (ap (λ (ns : List ℕ). slice_get ns i) mapped) ∙ g)) [
+      placed = λ i m g. elim (get-push (map way_lists.number_of_way ways) (way_lists.number_of_way new) m i (sym (ap (λ (ns : List ℕ). slice_get ns i) mapped) ∙ g)) [
         | inl old ↦ elim (cases_eq m k) [
           | inl q ↦ absurd (let c : 0 ≡ suc i = same_Some 0 (suc i) (sym free ∙ sym (ap (slice_get places) q) ∙ h.placed i m old) in omega (arith, c))
           | inr ne ↦ get-set_other places k m (length ways + 1) ne ∙ h.placed i m old
         ]
         | inr last ↦
             let q : m ≡ k = sym last.1 ∙ sym e in
-            let r : length ways + 1 ≡ suc i = omega (arith, last.0, length-map ways way_lists.number_of) in
+            let r : length ways + 1 ≡ suc i = omega (arith, last.0, length-map ways way_lists.number_of_way) in
             ap (slice_get (set places k (length ways + 1))) q ∙ get-set_same places k (length ways + 1) within ∙ ap Some r
       ];
       found = λ i m g. elim (cases_eq m k) [
         | inl q ↦
             let r : length ways + 1 ≡ suc i = same_Some _ _ (sym (get-set_same places k (length ways + 1) within) ∙ sym (ap (slice_get (set places k (length ways + 1))) q) ∙ g) in
-            let s : i ≡ length (map way_lists.number_of ways) = omega (arith, r, length-map ways way_lists.number_of) in
-            ap (λ (ns : List ℕ). slice_get ns i) mapped ∙ ap (slice_get (map way_lists.number_of ways ++ way_lists.number_of new ∷ [])) s ∙ get-last (map way_lists.number_of ways) (way_lists.number_of new) ∙ ap Some (sym e ∙ sym q)
-        | inr ne ↦ ap (λ (ns : List ℕ). slice_get ns i) mapped ∙ get-before (map way_lists.number_of ways) (way_lists.number_of new ∷ []) i m (h.found i m (sym (get-set_other places k m (length ways + 1) ne) ∙ g))
+            let s : i ≡ length (map way_lists.number_of_way ways) = omega (arith, r, length-map ways way_lists.number_of_way) in
+            ap (λ (ns : List ℕ). slice_get ns i) mapped ∙ ap (slice_get (map way_lists.number_of_way ways ++ way_lists.number_of_way new ∷ [])) s ∙ get-last (map way_lists.number_of_way ways) (way_lists.number_of_way new) ∙ ap Some (sym e ∙ sym q)
+        | inr ne ↦ ap (λ (ns : List ℕ). slice_get ns i) mapped ∙ get-before (map way_lists.number_of_way ways) (way_lists.number_of_way new ∷ []) i m (h.found i m (sym (get-set_other places k m (length ways + 1) ne) ∙ g))
       ];
     }
 
@@ -169,7 +169,7 @@ map-set_same f (z ∷ xs) (suc i) x y e h = ap (λ ws. f z ∷ ws) (map-set_same
 -- a way changes but for its ends
 pub ways_set : (ways : List way_lists.Way) (places : List ℕ) (i : ℕ) (w v : way_lists.Way) → slice_get ways i ≡ Some w → v.«from» ≡ w.«from» → v.to ≡ w.to → way_lists.AreWays ways places → way_lists.AreWays (set ways i v) places
 ways_set ways places i w v e f g h =
-    let mapped : map way_lists.number_of (set ways i v) ≡ map way_lists.number_of ways = map-set_same way_lists.number_of ways i w v e (number_same w.«from» w.to v f g) in
+    let mapped : map way_lists.number_of_way (set ways i v) ≡ map way_lists.number_of_way ways = map-set_same way_lists.number_of_way ways i w v e (number_same w.«from» w.to v f g) in
     record {
       place_count = h.place_count;
       real = λ j u d. elim (cases_eq j i) [

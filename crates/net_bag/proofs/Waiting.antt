@@ -13,7 +13,7 @@ use Rattle.spec_raft.specs.Positions as positions
 use Rattle.spec_raft.proofs.Placing.{length-change_place, at_place-changed, at_place-others}
 use Rattle.spec_cluster.specs.Bag as bags
 use Rattle.net_bag.specs.Ways as way_lists
-use Rattle.net_bag.specs.Packets as kept_packets
+use Rattle.net_bag.specs.KeptPackets as kept_packets
 use Rattle.net_bag.proofs.Numbers.{same_end-true, same_end-refl, both}
 use Rattle.net_bag.proofs.Flags.{not_true}
 use Rattle.net_bag.proofs.Table.{get-last, get-push, get-before, is_from-same, is_from-true, any-at}
@@ -130,12 +130,12 @@ differ x y h = grind (arith, nat_tests)
 shift : (x y : ℕ) → nat_eq x y ≡ nat_eq (suc x) (suc y)
 shift x y = grind (arith, nat_tests)
 
-open_place : (slots : List bags.KeptPacket) (i k : ℕ) → way_lists.is_open (slice_get (positions.change_place marked slots (suc i)) k) ≡ way_lists.is_open (slice_get slots k) && not (nat_eq k i)
+open_place : (slots : List bags.KeptPacket) (i k : ℕ) → way_lists.is_waiting (slice_get (positions.change_place marked slots (suc i)) k) ≡ way_lists.is_waiting (slice_get slots k) && not (nat_eq k i)
 open_place [] i k = refl
 open_place (s ∷ slots) zero zero = sym (ap (λ b. not s.is_marked && b) (alike 0 0 refl) ∙ and_false (not s.is_marked))
-open_place (s ∷ slots) zero (suc k) = sym (ap (λ b. way_lists.is_open (slice_get slots k) && b) (differ (suc k) 0 (omega arith)) ∙ and_true (way_lists.is_open (slice_get slots k)))
+open_place (s ∷ slots) zero (suc k) = sym (ap (λ b. way_lists.is_waiting (slice_get slots k) && b) (differ (suc k) 0 (omega arith)) ∙ and_true (way_lists.is_waiting (slice_get slots k)))
 open_place (s ∷ slots) (suc i) zero = sym (ap (λ b. not s.is_marked && b) (apart 0 (suc i) (omega arith)) ∙ and_true (not s.is_marked))
-open_place (s ∷ slots) (suc i) (suc k) = open_place slots i k ∙ ap (λ b. way_lists.is_open (slice_get slots k) && not b) (shift k i)
+open_place (s ∷ slots) (suc i) (suc k) = open_place slots i k ∙ ap (λ b. way_lists.is_waiting (slice_get slots k) && not b) (shift k i)
 
 same_number : (k i m g : ℕ) → suc k ≡ m - g → nat_eq k i ≡ nat_eq m (suc g + i)
 same_number k i m g e = grind (arith, nat_tests)
@@ -143,12 +143,12 @@ same_number k i m g e = grind (arith, nat_tests)
 pub open_marked : (gone i : ℕ) (slots : List bags.KeptPacket) (m : ℕ) → way_lists.open_at gone (positions.change_place marked slots (suc i)) m ≡ way_lists.open_at gone slots m && not (nat_eq m (suc gone + i))
 open_marked gone i slots m = at (m - gone) refl
   where
-    at : (q : ℕ) → q ≡ m - gone → way_lists.is_open (lists.at_place (positions.change_place marked slots (suc i)) q) ≡ way_lists.is_open (lists.at_place slots q) && not (nat_eq m (suc gone + i))
+    at : (q : ℕ) → q ≡ m - gone → way_lists.is_waiting (lists.at_place (positions.change_place marked slots (suc i)) q) ≡ way_lists.is_waiting (lists.at_place slots q) && not (nat_eq m (suc gone + i))
     at zero e = refl
-    at (suc k) e = open_place slots i k ∙ ap (λ b. way_lists.is_open (slice_get slots k) && not b) (same_number k i m gone e)
+    at (suc k) e = open_place slots i k ∙ ap (λ b. way_lists.is_waiting (slice_get slots k) && not b) (same_number k i m gone e)
 
 -- one way, after a packet is marked
-waits_marked : (sent gone i : ℕ) (slots : List bags.KeptPacket) (w : way_lists.Way) → kept_packets.IsIndexed sent gone slots w
+waits_marked : (sent gone i : ℕ) (slots : List bags.KeptPacket) (w : way_lists.Way) → kept_packets.IsWayIndexed sent gone slots w
     → filter (way_lists.open_at gone (positions.change_place marked slots (suc i))) w.waiting ≡ way_lists.numbers_on w.«from» w.to (suc gone) (positions.change_place marked slots (suc i))
 waits_marked sent gone i slots w h =
     filter_agree (way_lists.open_at gone (positions.change_place marked slots (suc i))) (λ m. way_lists.open_at gone slots m && not (nat_eq m (suc gone + i))) (open_marked gone i slots) w.waiting
@@ -156,16 +156,16 @@ waits_marked sent gone i slots w h =
     ∙ ap (filter (λ m. not (nat_eq m (suc gone + i)))) h.waits
     ∙ sym (numbers_marked w.«from» w.to (suc gone) i (suc gone + i) slots refl)
 
-pub indexed_beside : (sent gone i : ℕ) (slots : List bags.KeptPacket) (s : bags.KeptPacket) (w : way_lists.Way) → slice_get slots i ≡ Some s → way_lists.goes s.packet w ≡ false → kept_packets.IsIndexed sent gone slots w
-    → kept_packets.IsIndexed sent gone (positions.change_place marked slots (suc i)) w
+pub indexed_beside : (sent gone i : ℕ) (slots : List bags.KeptPacket) (s : bags.KeptPacket) (w : way_lists.Way) → slice_get slots i ≡ Some s → way_lists.goes s.packet w ≡ false → kept_packets.IsWayIndexed sent gone slots w
+    → kept_packets.IsWayIndexed sent gone (positions.change_place marked slots (suc i)) w
 indexed_beside sent gone i slots s w e out h = record {
   given = h.given;
   waits = waits_marked sent gone i slots w h;
   front = h.front ∙ ap (λ (ns : List ℕ). slice_get ns 0) (sym (numbers_beside w.«from» w.to (suc gone) i slots s e out));
 }
 
-pub indexed_trimmed : (sent gone i : ℕ) (slots : List bags.KeptPacket) (w : way_lists.Way) → kept_packets.IsIndexed sent gone slots w
-    → kept_packets.IsIndexed sent gone (positions.change_place marked slots (suc i)) (way_lists.trimmed (way_lists.open_at gone (positions.change_place marked slots (suc i))) w)
+pub indexed_trimmed : (sent gone i : ℕ) (slots : List bags.KeptPacket) (w : way_lists.Way) → kept_packets.IsWayIndexed sent gone slots w
+    → kept_packets.IsWayIndexed sent gone (positions.change_place marked slots (suc i)) (way_lists.without_front (way_lists.open_at gone (positions.change_place marked slots (suc i))) w)
 indexed_trimmed sent gone i slots w h =
     let test : ℕ → Bool = way_lists.open_at gone (positions.change_place marked slots (suc i)) in
     let waits : filter test w.waiting ≡ way_lists.numbers_on w.«from» w.to (suc gone) (positions.change_place marked slots (suc i)) = waits_marked sent gone i slots w h in
@@ -226,14 +226,14 @@ changed_at f (w ∷ ways) (suc j) (suc i) v e = elim (changed_at f ways j i v e)
 -- all, after a packet is marked and its way trimmed
 pub packets_marked : (sent gone i unmarked left j : ℕ) (slots : List bags.KeptPacket) (s : bags.KeptPacket) (ways : List way_lists.Way) → slice_get slots i ≡ Some s → s.is_marked ≡ false → suc left ≡ unmarked
     → way_lists.IsPlaceOf ways s.packet.«from» s.packet.to j → kept_packets.ArePackets sent gone slots unmarked ways
-    → kept_packets.ArePackets sent gone (positions.change_place marked slots (suc i)) left (positions.change_place (way_lists.trimmed (way_lists.open_at gone (positions.change_place marked slots (suc i)))) ways (suc j))
+    → kept_packets.ArePackets sent gone (positions.change_place marked slots (suc i)) left (positions.change_place (way_lists.without_front (way_lists.open_at gone (positions.change_place marked slots (suc i)))) ways (suc j))
 packets_marked sent gone i unmarked left j slots s ways e m less place h = record {
   within = omega (arith, h.within, length-change_place marked slots (suc i));
   rest = h.rest ∙ ap (λ n. sent - n) (sym (length-change_place marked slots (suc i)));
   counted = let c = count_marked (suc gone) i slots s e m in omega (arith, c, less, h.counted);
-  indexed = λ k v g. elim (changed_at (way_lists.trimmed (way_lists.open_at gone (positions.change_place marked slots (suc i)))) ways j k v g) [
-    | inl t ↦ let P : way_lists.Way → Type 0 = kept_packets.IsIndexed sent gone (positions.change_place marked slots (suc i)) in subst P (sym t.1.2) (indexed_trimmed sent gone i slots t.1.0 (h.indexed k t.1.0 t.1.1))
+  indexed = λ k v g. elim (changed_at (way_lists.without_front (way_lists.open_at gone (positions.change_place marked slots (suc i)))) ways j k v g) [
+    | inl t ↦ let P : way_lists.Way → Type 0 = kept_packets.IsWayIndexed sent gone (positions.change_place marked slots (suc i)) in subst P (sym t.1.2) (indexed_trimmed sent gone i slots t.1.0 (h.indexed k t.1.0 t.1.1))
     | inr t ↦ indexed_beside sent gone i slots s v e (not_true (way_lists.goes s.packet v) (λ on. let same = goes_same s.packet.«from» s.packet.to s.packet v refl refl on in t.0 (place.only k v t.1 same.0 same.1))) (h.indexed k v t.1)
   ];
-  served = served_changed (way_lists.trimmed (way_lists.open_at gone (positions.change_place marked slots (suc i)))) (λ p w. refl) ways (suc j) (positions.change_place marked slots (suc i)) (served_marked ways slots (suc i) h.served);
+  served = served_changed (way_lists.without_front (way_lists.open_at gone (positions.change_place marked slots (suc i)))) (λ p w. refl) ways (suc j) (positions.change_place marked slots (suc i)) (served_marked ways slots (suc i) h.served);
 }

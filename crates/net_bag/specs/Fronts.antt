@@ -2,7 +2,7 @@
 use Rattle.std.specs.Prelude.{◌≡◌, ℕ, Bool, Option, Some, None, List, [], ◌∷◌, nat_lt, slice_get, if◌then◌else◌}
 use Rattle.spec_cluster.specs.Bag as bags
 use Rattle.net_bag.specs.Ways as way_lists
-use Rattle.net_bag.specs.Packets as kept_packets
+use Rattle.net_bag.specs.KeptPackets as kept_packets
 use Rattle.net_bag.specs.Reasons as reasons
 
 -- the lesser of two numbers, where there are any

@@ -1,6 +1,6 @@
-pub mod Ends
+pub mod EndNumbers
 pub mod Links
 pub mod Ways
-pub mod Packets
+pub mod KeptPackets
 pub mod Reasons
 pub mod Fronts

@@ -4,7 +4,7 @@ use Rattle.std.specs.List.{list_any}
 use Rattle.ax_types.specs.declared.ids.End.{End}
 use Rattle.spec_raft.specs.Majority as majorities
 use Rattle.spec_cluster.specs.Bag as bags
-use Rattle.net_bag.specs.Ends as ends
+use Rattle.net_bag.specs.EndNumbers as ends
 
 -- whether the flags tell which of these links are cut
 abbrev pub AreTold : List bags.Link → List Bool → Type 0

@@ -16,9 +16,9 @@ reason_of refused.Cut = reason.Cut
 reason_of refused.Down = reason.NodeDown
 
 -- the numbers of the nodes that are up, by the flags of all
-abbrev pub up_nodes : List Bool → List ℕ
-up_nodes up = lists.numbers_passing (λ is_up. is_up) 1 up
+abbrev pub nodes_up : List Bool → List ℕ
+nodes_up up = lists.numbers_passing (λ is_up. is_up) 1 up
 
 -- what hinders packets from one end to another
 abbrev pub way_hindrance : List bags.Link → List Bool → End → End → Option SkipReason
-way_hindrance cuts up a b = if list_any (bags.is_between a b) cuts then Some reason.Cut else if bags.is_down (up_nodes up) b then Some reason.NodeDown else None
+way_hindrance cuts up a b = if list_any (bags.is_between a b) cuts then Some reason.Cut else if bags.is_down (nodes_up up) b then Some reason.NodeDown else None

@@ -5,7 +5,7 @@ use Rattle.ax_types.specs.Places as lists
 use Rattle.ax_types.specs.declared.ids.End.{End}
 use Rattle.ax_types.specs.declared.packets.Packet.{Packet}
 use Rattle.spec_cluster.specs.Bag as bags
-use Rattle.net_bag.specs.Ends as ends
+use Rattle.net_bag.specs.EndNumbers as ends
 
 -- a way from one end to another, with the numbers of the packets that were sent on it: the first of them waits, while
 -- others may have been delivered or dropped
@@ -26,16 +26,16 @@ is_on a b p = bags.same_end a p.«from» && bags.same_end b p.to
 abbrev pub goes : Packet → Way → Bool
 goes p w = is_on w.«from» w.to p
 
-abbrev pub number_of : Way → ℕ
-number_of w = ends.way_number w.«from» w.to
+abbrev pub number_of_way : Way → ℕ
+number_of_way w = ends.way_number w.«from» w.to
 
-abbrev pub is_open : Option bags.KeptPacket → Bool
-is_open None = false
-is_open (Some s) = not s.is_marked
+abbrev pub is_waiting : Option bags.KeptPacket → Bool
+is_waiting None = false
+is_waiting (Some s) = not s.is_marked
 
 -- whether the packet with a number is kept and not marked, where so many are no longer kept
 abbrev pub open_at : ℕ → List bags.KeptPacket → ℕ → Bool
-open_at gone slots number = is_open (lists.at_place slots (number - gone))
+open_at gone slots number = is_waiting (lists.at_place slots (number - gone))
 
 -- the numbers of the packets from one end to another that are not marked, where the first one kept has this number
 abbrev pub numbers_on : End → End → ℕ → List bags.KeptPacket → List ℕ
@@ -51,8 +51,8 @@ from_first test (n ∷ ns) = if test n then n ∷ ns else from_first test ns
 abbrev pub with_number : ℕ → Way → Way
 with_number number w = record w { waiting = w.waiting ++ number ∷ [] }
 
-abbrev pub trimmed : (ℕ → Bool) → Way → Way
-trimmed test w = record w { waiting = from_first test w.waiting }
+abbrev pub without_front : (ℕ → Bool) → Way → Way
+without_front test w = record w { waiting = from_first test w.waiting }
 
 -- the ways with the one from an end to another
 abbrev pub with_way : List Way → End → End → List Way
@@ -70,5 +70,5 @@ IsWay w = ends.IsEnd w.«from» × ends.IsEnd w.to
 pub record AreWays (ways : List Way) (places : List ℕ) : Type 0 where
   pub place_count : length places ≡ 625
   pub real : (i : ℕ) (w : Way) → slice_get ways i ≡ Some w → IsWay w
-  pub placed : (i k : ℕ) → slice_get (map number_of ways) i ≡ Some k → slice_get places k ≡ Some (suc i)
-  pub found : (i k : ℕ) → slice_get places k ≡ Some (suc i) → slice_get (map number_of ways) i ≡ Some k
+  pub placed : (i k : ℕ) → slice_get (map number_of_way ways) i ≡ Some k → slice_get places k ≡ Some (suc i)
+  pub found : (i k : ℕ) → slice_get places k ≡ Some (suc i) → slice_get (map number_of_way ways) i ≡ Some k

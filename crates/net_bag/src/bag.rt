@@ -80,7 +80,7 @@ impl Bag {
 
     /// Why the packet with a number cannot be delivered, where these nodes are up.
     fn take_refusal(&self, number: u64, up: &[bool]) -> Option<TakeRefused>
-        ensures { option_map reasons.reason_of result ≡ bags.take_refusal self.now (reasons.up_nodes up.now) number }
+        ensures { option_map reasons.reason_of result ≡ bags.take_refusal self.now (reasons.nodes_up up.now) number }
     {
         if let Some(refused) = self.packets.mark_refusal(number) {
             return Some(refused);
@@ -92,8 +92,8 @@ impl Bag {
     /// The packet with a number, which could be delivered where these nodes are up, as for `take`, but is not marked. `NeverSent`,
     /// `Gone`, `Cut` and `Down` say why it could not be, the first of them that holds.
     pub fn look(&self, number: u64, up: &[bool]) -> Result<&Packet, TakeRefused>
-        ensures refused { IfErr result (λ refused. bags.take_refusal self.now (reasons.up_nodes up.now) number ≡ Some (reasons.reason_of refused)) }
-        ensures seen { OnOk result (bags.take_refusal self.now (reasons.up_nodes up.now) number ≡ None) }
+        ensures refused { IfErr result (λ refused. bags.take_refusal self.now (reasons.nodes_up up.now) number ≡ Some (reasons.reason_of refused)) }
+        ensures seen { OnOk result (bags.take_refusal self.now (reasons.nodes_up up.now) number ≡ None) }
         ensures packet { IfOk result (λ packet. option_map (λ s. s.packet) (bags.kept_at self.now number) ≡ Some packet.now) }
     {
         if let Some(refused) = self.take_refusal(number, up) {
@@ -106,8 +106,8 @@ impl Bag {
     /// first. `NeverSent`, `Gone`, `Cut` and `Down` say why it cannot be delivered, the first of them that holds; the bag is
     /// then unchanged.
     pub fn take(&mut self, number: u64, up: &[bool]) -> Result<&Packet, TakeRefused>
-        ensures refused { IfErr result (λ refused. bags.take_refusal self.old (reasons.up_nodes up.now) number ≡ Some (reasons.reason_of refused)) }
-        ensures taken { OnOk result (bags.take_refusal self.old (reasons.up_nodes up.now) number ≡ None) }
+        ensures refused { IfErr result (λ refused. bags.take_refusal self.old (reasons.nodes_up up.now) number ≡ Some (reasons.reason_of refused)) }
+        ensures taken { OnOk result (bags.take_refusal self.old (reasons.nodes_up up.now) number ≡ None) }
         ensures packet { IfOk result (λ packet. option_map (λ s. s.packet) (bags.kept_at self.old number) ≡ Some packet.now) }
         ensures* after { sem 𝓛 (follows_so the_row the_row self.entry.ghost_name none (λ _ _. ⊤) (λ bag. OnOk result (bag ≡ bags.with_mark self.old number) × OnErr result (bag ≡ self.old))) }
     {
@@ -143,7 +143,7 @@ impl Bag {
 
     /// The number of the packet that a flush delivers next, where these nodes are up: the first one that nothing hinders.
     pub fn next_up(&self, up: &[bool]) -> Option<u64>
-        ensures { result ≡ bags.next_up self.now (reasons.up_nodes up.now) }
+        ensures { result ≡ bags.next_up self.now (reasons.nodes_up up.now) }
     {
         first_up(self.packets.ways(), &self.links, up)
     }

@@ -1,5 +1,5 @@
 ghost use Rattle.std.specs.Prelude.{◌≡◌, ◌<◌};
-ghost use Rattle.net_bag.specs.Ends as ends;
+ghost use Rattle.net_bag.specs.EndNumbers as ends;
 
 use ax_types::End;
 use ax_types::limits::{MAX_CLIENTS, MAX_NODES};

@@ -12,7 +12,7 @@ use ax_types::{End, TakeRefused};
 /// Whether a node is up, by the flags of all.
 fn is_up(up: &[bool], number: u8) -> bool
     requires { 1 ≤ number }
-    ensures { result ≡ majorities.is_in (reasons.up_nodes up.now) number }
+    ensures { result ≡ majorities.is_in (reasons.nodes_up up.now) number }
 {
     let index = number as usize - 1;
     if index >= up.len() {
@@ -23,7 +23,7 @@ fn is_up(up: &[bool], number: u8) -> bool
 
 /// Whether a packet's receiver is a node that is not up.
 fn is_down(up: &[bool], end: &End) -> bool
-    ensures { result ≡ bags.is_down (reasons.up_nodes up.now) end.now }
+    ensures { result ≡ bags.is_down (reasons.nodes_up up.now) end.now }
 {
     match end {
         End::Node(node) => !is_up(up, node.number()),

@@ -2,7 +2,7 @@ ghost use Rattle.std.specs.Prelude.{◌≡◌, ℕ, suc, ◌+◌, ◌^◌, ◌<�
 ghost use Rattle.std.specs.Option.{option_map};
 ghost use Rattle.spec_raft.specs.Positions as positions;
 ghost use Rattle.spec_cluster.specs.Bag as bags;
-ghost use Rattle.net_bag.specs.Packets as kept_packets;
+ghost use Rattle.net_bag.specs.KeptPackets as kept_packets;
 ghost use Rattle.net_bag.specs.Reasons as reasons;
 ghost use Rattle.net_bag.specs.Fronts as way_fronts;
 
@@ -28,7 +28,7 @@ pub(crate) struct Packets {
 impl Model for Packets {
     ghost use Rattle.std.specs.Prelude.{[], ◌-◌, length};
     ghost use Rattle.spec_cluster.specs.Bag as bags;
-    ghost use Rattle.net_bag.specs.Packets as kept_packets;
+    ghost use Rattle.net_bag.specs.KeptPackets as kept_packets;
 
     ghost Value = { bags.Bag };
 
@@ -201,7 +201,7 @@ fn first_items(kept: &VecDeque<Slot>, gone: u64, most: usize) -> Result<List<Ite
 
 /// Shows a packet as an item, unless it is marked.
 fn show(items: &mut List<Item>, number: u64, slot: &Slot) -> Result<(), NoMemory>
-    ensures { OnOk result (items.new ≡ kept_packets.with_shown items.old number slot.now) }
+    ensures { OnOk result (items.new ≡ kept_packets.with_pending items.old number slot.now) }
 {
     if slot.is_marked {
         return Ok(());

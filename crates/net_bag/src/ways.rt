@@ -47,7 +47,7 @@ impl Way {
 
     /// Lets the numbers in front go that are not those of packets that wait.
     fn trim(&mut self, gone: u64, kept: &VecDeque<Slot>)
-        ensures { self.new ≡ way_lists.trimmed (way_lists.open_at gone kept.now.items) self.old }
+        ensures { self.new ≡ way_lists.without_front (way_lists.open_at gone kept.now.items) self.old }
     {
         trim(&mut self.waiting, gone, kept);
     }
@@ -151,7 +151,7 @@ impl Ways {
     /// Lets the numbers in front of the way at a place go that are not those of packets that wait.
     pub(crate) fn trim(&mut self, place: usize, gone: u64, kept: &VecDeque<Slot>)
         requires { place < length self.old }
-        ensures { self.new ≡ positions.change_place (way_lists.trimmed (way_lists.open_at gone kept.now.items)) self.old (suc place) }
+        ensures { self.new ≡ positions.change_place (way_lists.without_front (way_lists.open_at gone kept.now.items)) self.old (suc place) }
     {
         let way = &mut self.ways[place];
         way.trim(gone, kept);

@@ -1,4 +1,4 @@
 pub mod Conditions
 pub mod Others
-pub mod Outcomes
+pub mod StepOutcomes
 pub mod Roles

@@ -1,7 +1,7 @@
 ghost use Rattle.std.specs.Prelude.{◌≡◌, ◌-◌, ◌^◌, ◌<◌, ◌≤◌, length, drop, IfOk, OnOk, false};
 ghost use Rattle.spec_raft.specs.Log as logs;
 ghost use Rattle.spec_node.specs.Node as nodes;
-ghost use Rattle.raft_node.specs.Outcomes as outcomes;
+ghost use Rattle.raft_node.specs.StepOutcomes as outcomes;
 
 use crate::did::Did;
 use crate::node::{RaftNode, Role};

@@ -1,6 +1,6 @@
 ghost use Rattle.std.specs.Prelude.{◌≡◌, ◌-◌, ◌^◌, ◌<◌, map, IfOk, OnOk};
 ghost use Rattle.spec_node.specs.Node as nodes;
-ghost use Rattle.raft_node.specs.Outcomes as outcomes;
+ghost use Rattle.raft_node.specs.StepOutcomes as outcomes;
 
 use crate::did::Did;
 use crate::leading::Leading;

@@ -3,7 +3,7 @@ ghost use Rattle.ax_types.specs.declared.raft.RaftInput.TheVariants as input;
 ghost use Rattle.spec_node.specs.Node as nodes;
 ghost use Rattle.spec_node.specs.NodeStep as node_steps;
 ghost use Rattle.raft_node.specs.Conditions as conditions;
-ghost use Rattle.raft_node.specs.Outcomes as outcomes;
+ghost use Rattle.raft_node.specs.StepOutcomes as outcomes;
 
 use crate::did::Did;
 use crate::node::RaftNode;
@@ -12,7 +12,7 @@ use ax_types::{Body, Duplicate, List, NoMemory, NodeId, Out, Payload, RaftInput,
 impl RaftNode {
     /// One step for an input (Ongaro 2014, figure 3.1). What it saves is to be kept before anything else of it counts.
     pub fn step(&mut self, input: &RaftInput) -> Result<Out, NoMemory>
-        requires { conditions.May self.old input.now }
+        requires { conditions.MayTake self.old input.now }
         ensures out { IfOk result (λ out. out ≡ node_steps.out self.old input.now) }
         ensures after { OnOk result (self.new ≡ node_steps.stepped self.old input.now) }
     {

@@ -75,7 +75,7 @@ impl Members {
 
     /// Whether each node is up, the node 1 first.
     pub(crate) fn up(&self) -> &[bool]
-        ensures { reasons.up_nodes result.now ≡ lists.numbers_passing (λ m. m.is_up) 1 self.now }
+        ensures { reasons.nodes_up result.now ≡ lists.numbers_passing (λ m. m.is_up) 1 self.now }
     {
         self.up.as_slice()
     }

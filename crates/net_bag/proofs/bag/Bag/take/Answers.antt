@@ -11,12 +11,12 @@ invariant_of-self-2 c = mark_within c.self.inside.packets c.mark.new.self c.args
 
 pub slot-requires-clause-kept : goal.slot-requires-clause-kept
 slot-requires-clause-kept c =
-    let refusal : bags.take_refusal c.args.self.now (reasons.up_nodes c.args.up.now) c.args.number ≡ None = ap (λ (b : bags.Bag). bags.take_refusal b (reasons.up_nodes c.args.up.now) c.args.number) (sym c.self.view_is) ∙ sym c.take_refusal.ensures ∙ ap (option_map reasons.reason_of) c.in_default.is in
-    omega (arith, gone_marked c.self.inside.packets c.mark.new.self c.args.number c.mark.ensures, taken_kept c.self.inside.packets c.self.inside.links c.args.self.now (reasons.up_nodes c.args.up.now) c.args.number c.self.view_is refusal)
+    let refusal : bags.take_refusal c.args.self.now (reasons.nodes_up c.args.up.now) c.args.number ≡ None = ap (λ (b : bags.Bag). bags.take_refusal b (reasons.nodes_up c.args.up.now) c.args.number) (sym c.self.view_is) ∙ sym c.take_refusal.ensures ∙ ap (option_map reasons.reason_of) c.in_default.is in
+    omega (arith, gone_marked c.self.inside.packets c.mark.new.self c.args.number c.mark.ensures, taken_kept c.self.inside.packets c.self.inside.links c.args.self.now (reasons.nodes_up c.args.up.now) c.args.number c.self.view_is refusal)
 
 pub returns : goal.returns
 returns c =
-    let refusal : bags.take_refusal c.args.self.now (reasons.up_nodes c.args.up.now) c.args.number ≡ None = ap (λ (b : bags.Bag). bags.take_refusal b (reasons.up_nodes c.args.up.now) c.args.number) (sym c.self.view_is) ∙ sym c.take_refusal.ensures ∙ ap (option_map reasons.reason_of) c.in_default.is in (
+    let refusal : bags.take_refusal c.args.self.now (reasons.nodes_up c.args.up.now) c.args.number ≡ None = ap (λ (b : bags.Bag). bags.take_refusal b (reasons.nodes_up c.args.up.now) c.args.number) (sym c.self.view_is) ∙ sym c.take_refusal.ensures ∙ ap (option_map reasons.reason_of) c.in_default.is in (
       (refl, (λ b. tt), (marked_bag c.self.inside.packets c.mark.new.self c.self.inside.links c.args.self.now c.args.number c.self.view_is c.mark.ensures, tt)),
       record {
         refused = tt;

@@ -18,7 +18,7 @@ invariant_of-self c =
 pub returns : goal.returns
 returns c =
     let within : c.args.place < length c.self.inside.ways.items = omega (arith, c.requires, ap length c.self.view_is) in
-    set-change (way_lists.trimmed (way_lists.open_at c.args.gone c.args.kept.now.items)) c.self.inside.ways.items c.args.place c.index_mut-way.result.now c.trim.new.self
+    set-change (way_lists.without_front (way_lists.open_at c.args.gone c.args.kept.now.items)) c.self.inside.ways.items c.args.place c.index_mut-way.result.now c.trim.new.self
     (slice_get_read c.self.inside.ways.items (length c.self.inside.ways.items) c.args.place c.index_mut-way.result.now refl within c.index_mut-way.ensures.value)
     c.trim.ensures
-    ∙ ap (λ (ws : List way_lists.Way). positions.change_place (way_lists.trimmed (way_lists.open_at c.args.gone c.args.kept.now.items)) ws (suc c.args.place)) c.self.view_is
+    ∙ ap (λ (ws : List way_lists.Way). positions.change_place (way_lists.without_front (way_lists.open_at c.args.gone c.args.kept.now.items)) ws (suc c.args.place)) c.self.view_is

@@ -1,7 +1,7 @@
 use Rattle.std.proofs.Common.{◌≡◌, ◌++◌, length}
 use Rattle.std.specs.Prelude.{map}
 use Rattle.spec_node.specs.Node as nodes
-use Rattle.raft_node.specs.Outcomes as outcomes
+use Rattle.raft_node.specs.StepOutcomes as outcomes
 use Rattle.raft_node.proofs.node.RaftNode.vote_requests.Given as goal
 
 abbrev pub invariant-others : goal.invariant-others

@@ -12,7 +12,7 @@ AreGiven sent [] = Unit {0}
 AreGiven sent (n ∷ ns) = (n ≤ sent) × AreGiven sent ns
 
 -- the numbers on a way are those of its packets that wait and of some that do not, and the first of them waits
-pub record IsIndexed (sent gone : ℕ) (slots : List bags.KeptPacket) (w : way_lists.Way) : Type 0 where
+pub record IsWayIndexed (sent gone : ℕ) (slots : List bags.KeptPacket) (w : way_lists.Way) : Type 0 where
   pub given : AreGiven sent w.waiting
   pub waits : filter (way_lists.open_at gone slots) w.waiting ≡ way_lists.numbers_on w.«from» w.to (suc gone) slots
   pub front : slice_get w.waiting 0 ≡ slice_get (way_lists.numbers_on w.«from» w.to (suc gone) slots) 0
@@ -26,7 +26,7 @@ pub record ArePackets (sent gone : ℕ) (slots : List bags.KeptPacket) (unmarked
   pub within : length slots ≤ sent
   pub rest : gone ≡ sent - length slots
   pub counted : unmarked ≡ length (bags.unmarked_from (suc gone) slots)
-  pub indexed : (i : ℕ) (w : way_lists.Way) → slice_get ways i ≡ Some w → IsIndexed sent gone slots w
+  pub indexed : (i : ℕ) (w : way_lists.Way) → slice_get ways i ≡ Some w → IsWayIndexed sent gone slots w
   pub served : AreServed ways slots
 
 -- a packet is sent, and all are kept
@@ -38,5 +38,5 @@ abbrev pub without_oldest : bags.Bag → bags.Bag
 without_oldest bag = record bag { kept = drop 1 bag.kept }
 
 -- a packet is shown as an item, unless it is marked
-abbrev pub with_shown : List Item → ℕ → bags.KeptPacket → List Item
-with_shown items number s = if s.is_marked then items else items ++ bags.pending_item (number, s.packet) ∷ []
+abbrev pub with_pending : List Item → ℕ → bags.KeptPacket → List Item
+with_pending items number s = if s.is_marked then items else items ++ bags.pending_item (number, s.packet) ∷ []
