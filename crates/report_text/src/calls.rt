@@ -1,4 +1,4 @@
-ghost use Rattle.std.specs.Prelude.{◌≡◌, OnOk, string_bytes, ◌++◌, [], ◌∷◌};
+ghost use Rattle.std.specs.Prelude.{◌≡◌, OnOk, string_bytes, ◌++◌, []};
 ghost use Rattle.spec_report.specs.CallLines as spec;
 
 use crate::pieces::{blank, one_operand, three_operands, two_operands, word};

@@ -1,6 +1,4 @@
-ghost use Rattle.std.specs.Prelude.{◌≡◌, OnOk, string_bytes, ◌++◌, ◌∷◌, []};
-ghost use Rattle.std.specs.Fmt.{decimal};
-ghost use Rattle.spec_report.specs.CallLines as call_lines;
+ghost use Rattle.std.specs.Prelude.{◌≡◌, OnOk, string_bytes, ◌++◌, []};
 ghost use Rattle.spec_report.specs.Items as spec;
 
 use crate::calls::{level_text, write_call};

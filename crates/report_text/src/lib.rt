@@ -15,7 +15,7 @@ mod waiting;
 pub use calls::{level_text, write_op, write_query};
 pub use items::watch_text;
 pub use json::json_text;
-pub use pieces::{blank, one_operand, three_operands, two_operands, word};
+pub use pieces::{blank, one_operand, two_operands, word};
 pub use printout::Printout;
 pub use replies::{write_event, write_reply};
 pub use report::whole_text;
