@@ -1,13 +1,12 @@
-ghost use Rattle.std.specs.Prelude.{◌≡◌, IfOk, string_bytes};
+ghost use Rattle.std.specs.Prelude.{◌≡◌, OnOk, string_bytes, ◌++◌, []};
 ghost use Rattle.spec_report.specs.CallLines as spec;
 
-use crate::pieces::{no_operand, one_operand, three_operands, two_operands};
+use crate::pieces::{blank, one_operand, three_operands, two_operands, word};
 use ax_types::{
     GroupOp, GroupQuery, Level, LockOp, LockQuery, LongOp, LongQuery, MapOp, MapQuery, MultimapOp,
     MultimapQuery, Name, NoMemory, Op, Query, QueueOp, QueueQuery, SetOp, SetQuery, TopicOp,
     TopicQuery, ValueOp, ValueQuery, WindowCall,
 };
-use std::alloc::Global;
 
 /// `seq` or `lin`.
 pub fn level_text(level: Level) -> &'static str
@@ -19,39 +18,39 @@ pub fn level_text(level: Level) -> &'static str
     }
 }
 
-fn map_op_text(alloc: Global, op: &MapOp) -> Result<String, NoMemory>
-    ensures { IfOk result (λ t. string_bytes t ≡ spec.map_op_text op.now) }
+fn write_map_op(line: &mut String, op: &MapOp) -> Result<(), NoMemory>
+    ensures { OnOk result (string_bytes line.new ≡ string_bytes line.old ++ spec.map_op_text op.now) }
 {
     match op {
-        MapOp::Put { key, text } => two_operands(alloc, "put", key, text),
-        MapOp::PutIfAbsent { key, text } => two_operands(alloc, "put_if_absent", key, text),
-        MapOp::Replace { key, text } => two_operands(alloc, "replace", key, text),
-        MapOp::Remove { key } => one_operand(alloc, "remove", key),
-        MapOp::Clear => no_operand(alloc, "clear"),
-        MapOp::Listen => no_operand(alloc, "listen"),
-        MapOp::PutFor { key, text, life } => three_operands(alloc, "put_for", key, text, life),
+        MapOp::Put { key, text } => two_operands(line, "put", key, text),
+        MapOp::PutIfAbsent { key, text } => two_operands(line, "put_if_absent", key, text),
+        MapOp::Replace { key, text } => two_operands(line, "replace", key, text),
+        MapOp::Remove { key } => one_operand(line, "remove", key),
+        MapOp::Clear => word(line, "clear"),
+        MapOp::Listen => word(line, "listen"),
+        MapOp::PutFor { key, text, life } => three_operands(line, "put_for", key, text, life),
     }
 }
 
-fn value_op_text(alloc: Global, op: &ValueOp) -> Result<String, NoMemory>
-    ensures { IfOk result (λ t. string_bytes t ≡ spec.value_op_text op.now) }
+fn write_value_op(line: &mut String, op: &ValueOp) -> Result<(), NoMemory>
+    ensures { OnOk result (string_bytes line.new ≡ string_bytes line.old ++ spec.value_op_text op.now) }
 {
     match op {
-        ValueOp::Set { text } => one_operand(alloc, "set", text),
-        ValueOp::Cas { expected, text } => two_operands(alloc, "cas", expected, text),
-        ValueOp::Clear => no_operand(alloc, "clear"),
-        ValueOp::Listen => no_operand(alloc, "listen"),
+        ValueOp::Set { text } => one_operand(line, "set", text),
+        ValueOp::Cas { expected, text } => two_operands(line, "cas", expected, text),
+        ValueOp::Clear => word(line, "clear"),
+        ValueOp::Listen => word(line, "listen"),
     }
 }
 
-fn long_op_text(alloc: Global, op: &LongOp) -> Result<String, NoMemory>
-    ensures { IfOk result (λ t. string_bytes t ≡ spec.long_op_text op.now) }
+fn write_long_op(line: &mut String, op: &LongOp) -> Result<(), NoMemory>
+    ensures { OnOk result (string_bytes line.new ≡ string_bytes line.old ++ spec.long_op_text op.now) }
 {
     match op {
-        LongOp::Add { delta } => one_operand(alloc, "add", delta),
-        LongOp::GetAndAdd { delta } => one_operand(alloc, "get_and_add", delta),
-        LongOp::Set { number } => one_operand(alloc, "set", number),
-        LongOp::Cas { expected, number } => two_operands(alloc, "cas", expected, number),
+        LongOp::Add { delta } => one_operand(line, "add", delta),
+        LongOp::GetAndAdd { delta } => one_operand(line, "get_and_add", delta),
+        LongOp::Set { number } => one_operand(line, "set", number),
+        LongOp::Cas { expected, number } => two_operands(line, "cas", expected, number),
     }
 }
 
@@ -76,69 +75,98 @@ fn group_op_text(op: GroupOp) -> &'static str
     }
 }
 
-fn set_op_text(alloc: Global, op: &SetOp) -> Result<String, NoMemory>
-    ensures { IfOk result (λ t. string_bytes t ≡ spec.set_op_text op.now) }
+fn write_set_op(line: &mut String, op: &SetOp) -> Result<(), NoMemory>
+    ensures { OnOk result (string_bytes line.new ≡ string_bytes line.old ++ spec.set_op_text op.now) }
 {
     match op {
-        SetOp::Add { text } => one_operand(alloc, "add", text),
-        SetOp::Remove { text } => one_operand(alloc, "remove", text),
-        SetOp::Clear => no_operand(alloc, "clear"),
+        SetOp::Add { text } => one_operand(line, "add", text),
+        SetOp::Remove { text } => one_operand(line, "remove", text),
+        SetOp::Clear => word(line, "clear"),
     }
 }
 
-fn queue_op_text(alloc: Global, op: &QueueOp) -> Result<String, NoMemory>
-    ensures { IfOk result (λ t. string_bytes t ≡ spec.queue_op_text op.now) }
+fn write_queue_op(line: &mut String, op: &QueueOp) -> Result<(), NoMemory>
+    ensures { OnOk result (string_bytes line.new ≡ string_bytes line.old ++ spec.queue_op_text op.now) }
 {
     match op {
-        QueueOp::Offer { text } => one_operand(alloc, "offer", text),
-        QueueOp::Poll => no_operand(alloc, "poll"),
+        QueueOp::Offer { text } => one_operand(line, "offer", text),
+        QueueOp::Poll => word(line, "poll"),
     }
 }
 
-fn multimap_op_text(alloc: Global, op: &MultimapOp) -> Result<String, NoMemory>
-    ensures { IfOk result (λ t. string_bytes t ≡ spec.multimap_op_text op.now) }
+fn write_multimap_op(line: &mut String, op: &MultimapOp) -> Result<(), NoMemory>
+    ensures { OnOk result (string_bytes line.new ≡ string_bytes line.old ++ spec.multimap_op_text op.now) }
 {
     match op {
-        MultimapOp::Put { key, text } => two_operands(alloc, "put", key, text),
-        MultimapOp::Remove { key, text } => two_operands(alloc, "remove", key, text),
-        MultimapOp::RemoveAll { key } => one_operand(alloc, "remove_all", key),
+        MultimapOp::Put { key, text } => two_operands(line, "put", key, text),
+        MultimapOp::Remove { key, text } => two_operands(line, "remove", key, text),
+        MultimapOp::RemoveAll { key } => one_operand(line, "remove_all", key),
     }
 }
 
-fn topic_op_text(alloc: Global, op: &TopicOp) -> Result<String, NoMemory>
-    ensures { IfOk result (λ t. string_bytes t ≡ spec.topic_op_text op.now) }
+fn write_topic_op(line: &mut String, op: &TopicOp) -> Result<(), NoMemory>
+    ensures { OnOk result (string_bytes line.new ≡ string_bytes line.old ++ spec.topic_op_text op.now) }
 {
     match op {
-        TopicOp::Subscribe => no_operand(alloc, "subscribe"),
-        TopicOp::Unsubscribe => no_operand(alloc, "unsubscribe"),
-        TopicOp::Publish { text } => one_operand(alloc, "publish", text),
+        TopicOp::Subscribe => word(line, "subscribe"),
+        TopicOp::Unsubscribe => word(line, "unsubscribe"),
+        TopicOp::Publish { text } => one_operand(line, "publish", text),
     }
+}
+
+/// A kind and a name, each with a blank behind it.
+fn kind_and_name(line: &mut String, kind: &str, name: &Name) -> Result<(), NoMemory>
+    ensures { OnOk result (string_bytes line.new ≡ string_bytes line.old ++ spec.two_operands kind.now name.now []) }
+{
+    one_operand(line, kind, name)?;
+    blank(line)
 }
 
 /// `KIND NAME OPERATION`, as a script writes it too.
-pub fn op_text(alloc: Global, name: &Name, op: &Op) -> Result<String, NoMemory>
-    ensures { IfOk result (λ t. string_bytes t ≡ spec.op_text name.now op.now) }
+pub fn write_op(line: &mut String, name: &Name, op: &Op) -> Result<(), NoMemory>
+    ensures { OnOk result (string_bytes line.new ≡ string_bytes line.old ++ spec.op_text name.now op.now) }
 {
     match op {
-        Op::Map(op) => two_operands(alloc, "map", name, &map_op_text(alloc, op)?),
-        Op::Value(op) => two_operands(alloc, "value", name, &value_op_text(alloc, op)?),
-        Op::Long(op) => two_operands(alloc, "long", name, &long_op_text(alloc, op)?),
-        Op::Lock(op) => two_operands(alloc, "lock", name, &lock_op_text(*op)),
-        Op::Group(op) => two_operands(alloc, "group", name, &group_op_text(*op)),
-        Op::Set(op) => two_operands(alloc, "set", name, &set_op_text(alloc, op)?),
-        Op::Queue(op) => two_operands(alloc, "queue", name, &queue_op_text(alloc, op)?),
-        Op::Multimap(op) => two_operands(alloc, "multimap", name, &multimap_op_text(alloc, op)?),
-        Op::Topic(op) => two_operands(alloc, "topic", name, &topic_op_text(alloc, op)?),
+        Op::Map(op) => {
+            kind_and_name(line, "map", name)?;
+            write_map_op(line, op)
+        }
+        Op::Value(op) => {
+            kind_and_name(line, "value", name)?;
+            write_value_op(line, op)
+        }
+        Op::Long(op) => {
+            kind_and_name(line, "long", name)?;
+            write_long_op(line, op)
+        }
+        Op::Lock(op) => two_operands(line, "lock", name, &lock_op_text(*op)),
+        Op::Group(op) => two_operands(line, "group", name, &group_op_text(*op)),
+        Op::Set(op) => {
+            kind_and_name(line, "set", name)?;
+            write_set_op(line, op)
+        }
+        Op::Queue(op) => {
+            kind_and_name(line, "queue", name)?;
+            write_queue_op(line, op)
+        }
+        Op::Multimap(op) => {
+            kind_and_name(line, "multimap", name)?;
+            write_multimap_op(line, op)
+        }
+        Op::Topic(op) => {
+            kind_and_name(line, "topic", name)?;
+            write_topic_op(line, op)
+        }
     }
 }
 
-fn map_query_text(alloc: Global, query: &MapQuery) -> Result<String, NoMemory>
-    ensures { IfOk result (λ t. string_bytes t ≡ spec.map_query_text query.now) }
+fn write_map_query(line: &mut String, query: &MapQuery) -> Result<(), NoMemory>
+    ensures { OnOk result (string_bytes line.new ≡ string_bytes line.old ++ spec.map_query_text query.now) }
 {
     match query {
-        MapQuery::Get { key } => one_operand(alloc, "get", key),
-        MapQuery::Contains { key } => one_operand(alloc, "contains", key),
-        MapQuery::Size => no_operand(alloc, "size"),
+        MapQuery::Get { key } => one_operand(line, "get", key),
+        MapQuery::Contains { key } => one_operand(line, "contains", key),
+        MapQuery::Size => word(line, "size"),
     }
 }
 
@@ -176,12 +204,12 @@ fn group_query_text(query: GroupQuery) -> &'static str
     }
 }
 
-fn set_query_text(alloc: Global, query: &SetQuery) -> Result<String, NoMemory>
-    ensures { IfOk result (λ t. string_bytes t ≡ spec.set_query_text query.now) }
+fn write_set_query(line: &mut String, query: &SetQuery) -> Result<(), NoMemory>
+    ensures { OnOk result (string_bytes line.new ≡ string_bytes line.old ++ spec.set_query_text query.now) }
 {
     match query {
-        SetQuery::Contains { text } => one_operand(alloc, "contains", text),
-        SetQuery::Size => no_operand(alloc, "size"),
+        SetQuery::Contains { text } => one_operand(line, "contains", text),
+        SetQuery::Size => word(line, "size"),
     }
 }
 
@@ -194,13 +222,13 @@ fn queue_query_text(query: QueueQuery) -> &'static str
     }
 }
 
-fn multimap_query_text(alloc: Global, query: &MultimapQuery) -> Result<String, NoMemory>
-    ensures { IfOk result (λ t. string_bytes t ≡ spec.multimap_query_text query.now) }
+fn write_multimap_query(line: &mut String, query: &MultimapQuery) -> Result<(), NoMemory>
+    ensures { OnOk result (string_bytes line.new ≡ string_bytes line.old ++ spec.multimap_query_text query.now) }
 {
     match query {
-        MultimapQuery::Contains { key, text } => two_operands(alloc, "contains", key, text),
-        MultimapQuery::Count { key } => one_operand(alloc, "count", key),
-        MultimapQuery::Size => no_operand(alloc, "size"),
+        MultimapQuery::Contains { key, text } => two_operands(line, "contains", key, text),
+        MultimapQuery::Count { key } => one_operand(line, "count", key),
+        MultimapQuery::Size => word(line, "size"),
     }
 }
 
@@ -213,35 +241,44 @@ fn topic_query_text(query: TopicQuery) -> &'static str
 }
 
 /// `KIND NAME QUERY`, as a script writes it too.
-pub fn query_text(alloc: Global, name: &Name, query: &Query) -> Result<String, NoMemory>
-    ensures { IfOk result (λ t. string_bytes t ≡ spec.query_text name.now query.now) }
+pub fn write_query(line: &mut String, name: &Name, query: &Query) -> Result<(), NoMemory>
+    ensures { OnOk result (string_bytes line.new ≡ string_bytes line.old ++ spec.query_text name.now query.now) }
 {
     match query {
-        Query::Map(query) => two_operands(alloc, "map", name, &map_query_text(alloc, query)?),
-        Query::Value(query) => two_operands(alloc, "value", name, &value_query_text(*query)),
-        Query::Long(query) => two_operands(alloc, "long", name, &long_query_text(*query)),
-        Query::Lock(query) => two_operands(alloc, "lock", name, &lock_query_text(*query)),
-        Query::Group(query) => two_operands(alloc, "group", name, &group_query_text(*query)),
-        Query::Set(query) => two_operands(alloc, "set", name, &set_query_text(alloc, query)?),
-        Query::Queue(query) => two_operands(alloc, "queue", name, &queue_query_text(*query)),
-        Query::Multimap(query) => {
-            two_operands(alloc, "multimap", name, &multimap_query_text(alloc, query)?)
+        Query::Map(query) => {
+            kind_and_name(line, "map", name)?;
+            write_map_query(line, query)
         }
-        Query::Topic(query) => two_operands(alloc, "topic", name, &topic_query_text(*query)),
+        Query::Value(query) => two_operands(line, "value", name, &value_query_text(*query)),
+        Query::Long(query) => two_operands(line, "long", name, &long_query_text(*query)),
+        Query::Lock(query) => two_operands(line, "lock", name, &lock_query_text(*query)),
+        Query::Group(query) => two_operands(line, "group", name, &group_query_text(*query)),
+        Query::Set(query) => {
+            kind_and_name(line, "set", name)?;
+            write_set_query(line, query)
+        }
+        Query::Queue(query) => two_operands(line, "queue", name, &queue_query_text(*query)),
+        Query::Multimap(query) => {
+            kind_and_name(line, "multimap", name)?;
+            write_multimap_query(line, query)
+        }
+        Query::Topic(query) => two_operands(line, "topic", name, &topic_query_text(*query)),
     }
 }
 
 /// `call KIND NAME OPERATION` or `query LEVEL KIND NAME QUERY`.
-pub fn call_text(alloc: Global, call: &WindowCall) -> Result<String, NoMemory>
-    ensures { IfOk result (λ t. string_bytes t ≡ spec.call_text call.now) }
+pub fn write_call(line: &mut String, call: &WindowCall) -> Result<(), NoMemory>
+    ensures { OnOk result (string_bytes line.new ≡ string_bytes line.old ++ spec.call_text call.now) }
 {
     match call {
         WindowCall::Command { name, op } => {
-            one_operand(alloc, "call", &op_text(alloc, name, op)?)
+            word(line, "call ")?;
+            write_op(line, name, op)
         }
         WindowCall::Query { level, name, query } => {
-            let query = query_text(alloc, name, query)?;
-            two_operands(alloc, "query", &level_text(*level), &query)
+            one_operand(line, "query", &level_text(*level))?;
+            blank(line)?;
+            write_query(line, name, query)
         }
     }
 }

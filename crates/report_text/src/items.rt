@@ -1,12 +1,10 @@
-ghost use Rattle.std.specs.Prelude.{◌≡◌, IfOk, string_bytes, ◌++◌, ◌∷◌, [], length, map};
-ghost use Rattle.std.specs.Fmt.{decimal};
+ghost use Rattle.std.specs.Prelude.{◌≡◌, OnOk, string_bytes, ◌++◌, []};
 ghost use Rattle.spec_report.specs.Items as spec;
 
-use crate::calls::{call_text, level_text};
-use crate::pieces::{ended, no_operand, one_operand, three_operands, two_operands};
-use crate::replies::{counted_events_text, event_text, how_text, reply_text};
+use crate::calls::{level_text, write_call};
+use crate::pieces::{blank, one_operand, three_operands, two_operands, word};
+use crate::replies::{how_text, write_counted_events, write_event, write_reply};
 use ax_types::{Event, Item, Level, NoMemory, PayloadKind, Reply, SkipReason, WatchKind};
-use std::alloc::Global;
 
 fn payload_kind_text(kind: PayloadKind) -> &'static str
     ensures { result.now ≡ spec.payload_kind_text kind }
@@ -43,87 +41,80 @@ pub fn watch_text(kind: WatchKind) -> &'static str
     }
 }
 
-fn skip_text(alloc: Global, reason: SkipReason) -> Result<String, NoMemory>
-    ensures { IfOk result (λ t. string_bytes t ≡ spec.skip_text reason) }
+fn write_skip_reason(line: &mut String, reason: SkipReason) -> Result<(), NoMemory>
+    ensures { OnOk result (string_bytes line.new ≡ string_bytes line.old ++ spec.skip_text reason) }
 {
     match reason {
-        SkipReason::NodeDown => no_operand(alloc, "node-down"),
-        SkipReason::IsLeader => no_operand(alloc, "is-leader"),
-        SkipReason::NotLeader => no_operand(alloc, "not-leader"),
-        SkipReason::NodeUp => no_operand(alloc, "node-up"),
-        SkipReason::NeverSent => no_operand(alloc, "never-sent"),
-        SkipReason::Gone => no_operand(alloc, "gone"),
-        SkipReason::Cut => no_operand(alloc, "cut"),
-        SkipReason::SessionOpen => no_operand(alloc, "session-open"),
-        SkipReason::NoSession => no_operand(alloc, "no-session"),
-        SkipReason::WindowFull => no_operand(alloc, "window-full"),
-        SkipReason::Busy { unanswered } => one_operand(alloc, "busy", &unanswered),
-        SkipReason::Watched => no_operand(alloc, "watched"),
+        SkipReason::NodeDown => word(line, "node-down"),
+        SkipReason::IsLeader => word(line, "is-leader"),
+        SkipReason::NotLeader => word(line, "not-leader"),
+        SkipReason::NodeUp => word(line, "node-up"),
+        SkipReason::NeverSent => word(line, "never-sent"),
+        SkipReason::Gone => word(line, "gone"),
+        SkipReason::Cut => word(line, "cut"),
+        SkipReason::SessionOpen => word(line, "session-open"),
+        SkipReason::NoSession => word(line, "no-session"),
+        SkipReason::WindowFull => word(line, "window-full"),
+        SkipReason::Busy { unanswered } => one_operand(line, "busy", &unanswered),
+        SkipReason::Watched => word(line, "watched"),
     }
 }
 
 /// The arrival of a linearizable query at the leader of a term: `TERM.A`.
-fn arrival_text(alloc: Global, term: u64, arrival: u64) -> Result<String, NoMemory>
-    ensures { IfOk result (λ t. string_bytes t ≡ spec.arrival_text term arrival) }
+fn write_arrival(line: &mut String, term: u64, arrival: u64) -> Result<(), NoMemory>
+    ensures { OnOk result (string_bytes line.new ≡ string_bytes line.old ++ spec.arrival_text term arrival) }
 {
-    Ok(format!(in alloc; "{term}.{arrival}")?)
+    Ok(write!(line, "{term}.{arrival}")?)
 }
 
 /// `TERM.A`, or `-` where there is none.
-fn reach_text(alloc: Global, reach: Option<(u64, u64)>) -> Result<String, NoMemory>
-    ensures { IfOk result (λ t. string_bytes t ≡ spec.reach_text reach) }
+fn write_reach(line: &mut String, reach: Option<(u64, u64)>) -> Result<(), NoMemory>
+    ensures { OnOk result (string_bytes line.new ≡ string_bytes line.old ++ spec.reach_text reach) }
 {
     match reach {
-        None => no_operand(alloc, "-"),
-        Some((term, arrival)) => arrival_text(alloc, term, arrival),
+        None => word(line, "-"),
+        Some((term, arrival)) => write_arrival(line, term, arrival),
     }
 }
 
-/// `WORD S N`.
-fn of_call(alloc: Global, word: &str, session: u64, number: u64) -> Result<String, NoMemory>
-    ensures { IfOk result (λ t. string_bytes t ≡ spec.of_call word.now session number) }
-{
-    two_operands(alloc, word, &session, &number)
-}
-
-/// `WORD LEVEL P REACH REPLY`.
-pub fn read_text(
-    alloc: Global,
-    word: &str,
+/// ` LEVEL P REACH REPLY`, behind a word.
+pub fn write_read(
+    line: &mut String,
     level: Level,
     place: u64,
     reach: Option<(u64, u64)>,
     reply: &Reply,
-) -> Result<String, NoMemory>
-    ensures { IfOk result (λ t. string_bytes t ≡ spec.read_text word.now level place reach reply.now) }
+) -> Result<(), NoMemory>
+    ensures { OnOk result (string_bytes line.new ≡ string_bytes line.old ++ spec.read_text [] level place reach reply.now) }
 {
-    let head = two_operands(alloc, word, &level_text(level), &place)?;
-    let reach = reach_text(alloc, reach)?;
-    let reply = reply_text(alloc, reply)?;
-    two_operands(alloc, head.as_str(), &reach, &reply)
+    two_operands(line, "", &level_text(level), &place)?;
+    blank(line)?;
+    write_reach(line, reach)?;
+    blank(line)?;
+    write_reply(line, reply)
 }
 
-/// `WORD S P EVENT`.
-pub fn told_text(
-    alloc: Global,
-    word: &str,
+/// ` S P EVENT`, behind a word.
+pub fn write_told(
+    line: &mut String,
     session: u64,
     place: u64,
     event: &Event,
-) -> Result<String, NoMemory>
-    ensures { IfOk result (λ t. string_bytes t ≡ spec.told_text word.now session place event.now) }
+) -> Result<(), NoMemory>
+    ensures { OnOk result (string_bytes line.new ≡ string_bytes line.old ++ spec.told_text [] session place event.now) }
 {
-    let event = event_text(alloc, event)?;
-    three_operands(alloc, word, &session, &place, &event)
+    two_operands(line, "", &session, &place)?;
+    blank(line)?;
+    write_event(line, event)
 }
 
 /// The line of an item, without its newline.
-pub fn item_line(alloc: Global, item: &Item) -> Result<String, NoMemory>
-    ensures { IfOk result (λ t. string_bytes t ≡ spec.item_line item.now) }
+pub fn write_item_line(line: &mut String, item: &Item) -> Result<(), NoMemory>
+    ensures { OnOk result (string_bytes line.new ≡ string_bytes line.old ++ spec.item_line item.now) }
 {
     match item {
-        Item::Leader { node, term } => two_operands(alloc, "leader", node, term),
-        Item::Commit { place } => one_operand(alloc, "commit", place),
+        Item::Leader { node, term } => two_operands(line, "leader", node, term),
+        Item::Commit { place } => one_operand(line, "commit", place),
         Item::Reach {
             node,
             term,
@@ -131,19 +122,21 @@ pub fn item_line(alloc: Global, item: &Item) -> Result<String, NoMemory>
             session,
             number,
         } => {
-            let arrival = arrival_text(alloc, *term, *arrival)?;
-            let head = two_operands(alloc, "reach", node, &arrival)?;
-            of_call(alloc, head.as_str(), *session, *number)
+            one_operand(line, "reach", node)?;
+            blank(line)?;
+            write_arrival(line, *term, *arrival)?;
+            two_operands(line, "", session, number)
         }
-        Item::Halted { node } => one_operand(alloc, "halted", node),
-        Item::Opened { session, client } => two_operands(alloc, "opened", session, client),
+        Item::Halted { node } => one_operand(line, "halted", node),
+        Item::Opened { session, client } => two_operands(line, "opened", session, client),
         Item::Called {
             session,
             number,
             call,
         } => {
-            let head = of_call(alloc, "called", *session, *number)?;
-            one_operand(alloc, head.as_str(), &call_text(alloc, call)?)
+            two_operands(line, "called", session, number)?;
+            blank(line)?;
+            write_call(line, call)
         }
         Item::Event {
             session,
@@ -151,9 +144,9 @@ pub fn item_line(alloc: Global, item: &Item) -> Result<String, NoMemory>
             prev,
             events,
         } => {
-            let head = of_call(alloc, "event", *session, *place)?;
-            let events = counted_events_text(alloc, events.as_slice())?;
-            two_operands(alloc, head.as_str(), prev, &events)
+            three_operands(line, "event", session, place, prev)?;
+            blank(line)?;
+            write_counted_events(line, events.as_slice())
         }
         Item::Watched {
             client,
@@ -162,8 +155,8 @@ pub fn item_line(alloc: Global, item: &Item) -> Result<String, NoMemory>
             place,
             event,
         } => {
-            let head = two_operands(alloc, "watch", client, &watch_text(*kind))?;
-            told_text(alloc, head.as_str(), *session, *place, event)
+            two_operands(line, "watch", client, &watch_text(*kind))?;
+            write_told(line, *session, *place, event)
         }
         Item::Reply {
             session,
@@ -171,8 +164,9 @@ pub fn item_line(alloc: Global, item: &Item) -> Result<String, NoMemory>
             place,
             reply,
         } => {
-            let head = of_call(alloc, "reply", *session, *number)?;
-            two_operands(alloc, head.as_str(), place, &reply_text(alloc, reply)?)
+            three_operands(line, "reply", session, number, place)?;
+            blank(line)?;
+            write_reply(line, reply)
         }
         Item::Read {
             session,
@@ -182,69 +176,38 @@ pub fn item_line(alloc: Global, item: &Item) -> Result<String, NoMemory>
             reach,
             reply,
         } => {
-            let head = of_call(alloc, "read", *session, *number)?;
-            read_text(alloc, head.as_str(), *level, *place, *reach, reply)
+            two_operands(line, "read", session, number)?;
+            write_read(line, *level, *place, *reach, reply)
         }
         Item::Ended {
             session,
             place,
             how,
-        } => {
-            let head = of_call(alloc, "ended", *session, *place)?;
-            one_operand(alloc, head.as_str(), &how_text(*how))
-        }
-        Item::Doubt { session, number } => of_call(alloc, "doubt", *session, *number),
-        Item::Lost { session, number } => of_call(alloc, "lost", *session, *number),
-        Item::Unsent { session, number } => of_call(alloc, "unsent", *session, *number),
-        Item::Unanswered { session, number } => of_call(alloc, "unanswered", *session, *number),
-        Item::Listed { count } => one_operand(alloc, "listed", count),
+        } => three_operands(line, "ended", session, place, &how_text(*how)),
+        Item::Doubt { session, number } => two_operands(line, "doubt", session, number),
+        Item::Lost { session, number } => two_operands(line, "lost", session, number),
+        Item::Unsent { session, number } => two_operands(line, "unsent", session, number),
+        Item::Unanswered { session, number } => two_operands(line, "unanswered", session, number),
+        Item::Listed { count } => one_operand(line, "listed", count),
         Item::Pending {
             number,
             from,
             to,
             kind,
         } => {
-            let head = two_operands(alloc, "pending", number, from)?;
-            two_operands(alloc, head.as_str(), to, &payload_kind_text(*kind))
+            three_operands(line, "pending", number, from, to)?;
+            one_operand(line, "", &payload_kind_text(*kind))
         }
-        Item::Skip { reason } => one_operand(alloc, "skip", &skip_text(alloc, *reason)?),
+        Item::Skip { reason } => {
+            word(line, "skip ")?;
+            write_skip_reason(line, *reason)
+        }
     }
-}
-
-/// The line of an item, with its newline.
-pub fn item_text(alloc: Global, item: &Item) -> Result<String, NoMemory>
-    ensures { IfOk result (λ t. string_bytes t ≡ spec.item_text item.now) }
-{
-    ended(item_line(alloc, item)?)
-}
-
-/// The lines of items.
-pub fn items_text(alloc: Global, items: &[Item]) -> Result<String, NoMemory>
-    ensures { IfOk result (λ t. string_bytes t ≡ spec.items_text items.now) }
-{
-    let mut text = String::new(alloc);
-    'items: for item in items {
-        text.push_str(item_line(alloc, item)?.as_str())?;
-        text.push_str("\n")?;
-    }
-    Ok(text)
 }
 
 /// `waiting S N`, without its newline.
-pub fn waiting_line(alloc: Global, session: u64, number: u64) -> Result<String, NoMemory>
-    ensures { IfOk result (λ t. string_bytes t ≡ spec.waiting_line (session, number)) }
+pub fn write_waiting_line(line: &mut String, session: u64, number: u64) -> Result<(), NoMemory>
+    ensures { OnOk result (string_bytes line.new ≡ string_bytes line.old ++ spec.waiting_line (session, number)) }
 {
-    of_call(alloc, "waiting", session, number)
-}
-
-/// The lines `waiting S N` of calls without an outcome, each a session and a number.
-pub fn waiting_text(alloc: Global, waiting: &[(u64, u64)]) -> Result<String, NoMemory>
-    ensures { IfOk result (λ t. string_bytes t ≡ spec.waiting_text waiting.now) }
-{
-    let mut text = String::new(alloc);
-    'calls: for call in waiting {
-        text.push_str(waiting_line(alloc, call.0, call.1)?.as_str())?;
-        text.push_str("\n")?;
-    }
-    Ok(text)
+    two_operands(line, "waiting", &session, &number)
 }

@@ -1,13 +1,12 @@
-ghost use Rattle.std.specs.Prelude.{◌≡◌, IfOk, string_bytes, map};
+ghost use Rattle.std.specs.Prelude.{◌≡◌, IfOk, string_bytes, ◌++◌, ◌∷◌, [], map};
 ghost use Rattle.serde_json.specs.Data.{array};
 ghost use Rattle.serde_json.specs.View.{view};
 ghost use Rattle.spec_report.specs.Items as items;
 ghost use Rattle.spec_report.specs.Report as report;
 ghost use Rattle.spec_report.specs.Json as spec;
 
-use crate::items::{item_line, waiting_line};
-use crate::pieces::ended;
-use crate::report::{act_line, end_word};
+use crate::items::{write_item_line, write_waiting_line};
+use crate::report::{write_act_line, write_end_word};
 use ax_types::{Act, Item, NoMemory, Report};
 use serde_json::{Value, json};
 use std::alloc::{AllocError, Global};
@@ -18,7 +17,9 @@ fn items_value(alloc: Global, list: &[Item]) -> Result<Value, NoMemory>
 {
     let mut lines = Vec::new(alloc);
     'items: for item in list {
-        lines.push(Value::String(item_line(alloc, item)?))?;
+        let mut line = String::new(alloc);
+        write_item_line(&mut line, item)?;
+        lines.push(Value::String(line))?;
     }
     Ok(Value::Array(lines))
 }
@@ -30,7 +31,9 @@ fn history_value(alloc: Global, history: &[(u64, Act)]) -> Result<Value, NoMemor
     let mut lines = Vec::new(alloc);
     let mut place = 1;
     'entries: for entry in history {
-        lines.push(Value::String(act_line(alloc, place, entry.0, &entry.1)?))?;
+        let mut line = String::new(alloc);
+        write_act_line(&mut line, place, entry.0, &entry.1)?;
+        lines.push(Value::String(line))?;
         place += 1;
     }
     Ok(Value::Array(lines))
@@ -42,7 +45,9 @@ fn waiting_value(alloc: Global, waiting: &[(u64, u64)]) -> Result<Value, NoMemor
 {
     let mut lines = Vec::new(alloc);
     'calls: for call in waiting {
-        lines.push(Value::String(waiting_line(alloc, call.0, call.1)?))?;
+        let mut line = String::new(alloc);
+        write_waiting_line(&mut line, call.0, call.1)?;
+        lines.push(Value::String(line))?;
     }
     Ok(Value::Array(lines))
 }
@@ -66,11 +71,20 @@ fn report_object(
 fn report_value(alloc: Global, report: &Report) -> Result<Value, NoMemory>
     ensures { IfOk result (λ v. view v ≡ spec.report_data report.now) }
 {
-    let end = end_word(alloc, report.end)?;
+    let mut end = String::new(alloc);
+    write_end_word(&mut end, report.end)?;
     let history = history_value(alloc, report.history.as_slice())?;
     let items = items_value(alloc, report.items.as_slice())?;
     let waiting = waiting_value(alloc, report.waiting.as_slice())?;
     Ok(report_object(alloc, end, history, items, waiting)?)
+}
+
+/// A text, and a newline.
+fn ended(mut text: String) -> Result<String, NoMemory>
+    ensures { IfOk result (λ t. string_bytes t ≡ string_bytes text ++ (10 ∷ [])) }
+{
+    text.push_str("\n")?;
+    Ok(text)
 }
 
 /// The report in JSON, with a newline: the text, with no space, of an object whose keys are `end`, `history`,

@@ -1,19 +1,24 @@
 //! The text of a report and its JSON form.
+//!
+//! A writer of words appends them to a line. After want of memory that line is of no use: it may have a part of them.
 #![tactic(auto)]
 
 mod calls;
 mod items;
 mod json;
 mod pieces;
+mod printout;
 mod replies;
 mod report;
 mod waiting;
 
-pub use calls::{call_text, op_text, query_text};
-pub use items::{item_line, item_text, items_text, waiting_line, waiting_text};
+pub use calls::{level_text, write_op, write_query};
+pub use items::watch_text;
 pub use json::json_text;
-pub use replies::{event_text, reply_text};
-pub use report::{act_line, caller_text, end_text, end_word, feed_text, head_text, history_text};
+pub use pieces::{blank, one_operand, two_operands, word};
+pub use printout::Printout;
+pub use replies::{write_event, write_reply};
+pub use report::whole_text;
 pub use waiting::waiting_of;
 
 #[cfg(test)]

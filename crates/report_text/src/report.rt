@@ -1,123 +1,121 @@
-ghost use Rattle.std.specs.Prelude.{◌≡◌, ◌≢◌, ◌+◌, ◌<◌, ◌^◌, IfOk, string_bytes, ◌++◌, ◌∷◌, [], length};
+ghost use Rattle.std.specs.Prelude.{◌≡◌, ◌≢◌, OnOk, IfOk, string_bytes, ◌++◌};
+ghost use Rattle.spec_report.specs.Items as items_spec;
 ghost use Rattle.spec_report.specs.Report as spec;
+ghost use Rattle.report_text.specs.WholeText as texts;
 
-use crate::calls::op_text;
-use crate::items::{items_text, read_text, told_text, waiting_text, watch_text};
-use crate::pieces::{ended, no_operand, one_operand, three_operands, two_operands};
-use crate::replies::reply_text;
-use ax_types::{Act, ClientId, Event, NoMemory, Outcome, Report, RunEnd, WatchKind};
+use crate::calls::write_op;
+use crate::items::write_read;
+use crate::pieces::{blank, one_operand, two_operands, word};
+use crate::printout::Printout;
+use crate::replies::write_reply;
+use ax_types::{Act, Item, NoMemory, Outcome, Report, RunEnd};
 use std::alloc::Global;
 
-/// The first line, with its newline.
-pub fn head_text() -> &'static str
-    ensures { result.now ≡ spec.head_text }
-{
-    "report 1\n"
-}
-
-fn act_text(alloc: Global, act: &Act) -> Result<String, NoMemory>
-    ensures { IfOk result (λ t. string_bytes t ≡ spec.act_text act.now) }
+fn write_act(line: &mut String, act: &Act) -> Result<(), NoMemory>
+    ensures { OnOk result (string_bytes line.new ≡ string_bytes line.old ++ spec.act_text act.now) }
 {
     match act {
-        Act::Nothing => no_operand(alloc, "nothing"),
-        Act::Open { client, opening } => two_operands(alloc, "open", client, opening),
-        Act::Keep { session } => one_operand(alloc, "keep", session),
+        Act::Nothing => word(line, "nothing"),
+        Act::Open { client, opening } => two_operands(line, "open", client, opening),
+        Act::Keep { session } => one_operand(line, "keep", session),
         Act::Do { session, name, op } => {
-            two_operands(alloc, "do", session, &op_text(alloc, name, op)?)
+            one_operand(line, "do", session)?;
+            blank(line)?;
+            write_op(line, name, op)
         }
-        Act::Close { session } => one_operand(alloc, "close", session),
-        Act::Expire { session } => one_operand(alloc, "expire", session),
+        Act::Close { session } => one_operand(line, "close", session),
+        Act::Expire { session } => one_operand(line, "expire", session),
     }
 }
 
 /// The line of the time and the act at a place, without its newline: `P TIME ACT`.
-pub fn act_line(alloc: Global, place: u64, time: u64, act: &Act) -> Result<String, NoMemory>
-    ensures { IfOk result (λ t. string_bytes t ≡ spec.act_line place (time, act.now)) }
+pub fn write_act_line(line: &mut String, place: u64, time: u64, act: &Act) -> Result<(), NoMemory>
+    ensures { OnOk result (string_bytes line.new ≡ string_bytes line.old ++ spec.act_line place (time, act.now)) }
 {
-    let act = act_text(alloc, act)?;
-    Ok(format!(in alloc; "{place} {time} {act}")?)
-}
-
-/// The line `history L` and the lines of the L entries of a history, each a time and an act.
-pub fn history_text(alloc: Global, history: &[(u64, Act)]) -> Result<String, NoMemory>
-    ensures { IfOk result (λ t. string_bytes t ≡ spec.history_text history.now) }
-{
-    let mut text = ended(one_operand(alloc, "history", &history.len())?)?;
-    let mut place = 1;
-    'entries: for entry in history {
-        text.push_str(act_line(alloc, place, entry.0, &entry.1)?.as_str())?;
-        text.push_str("\n")?;
-        place += 1;
-    }
-    Ok(text)
+    write!(line, "{place} {time} ")?;
+    write_act(line, act)
 }
 
 /// `done` or `step-limit LINE`.
-pub fn end_word(alloc: Global, end: RunEnd) -> Result<String, NoMemory>
-    ensures { IfOk result (λ t. string_bytes t ≡ spec.end_word end) }
+pub fn write_end_word(line: &mut String, end: RunEnd) -> Result<(), NoMemory>
+    ensures { OnOk result (string_bytes line.new ≡ string_bytes line.old ++ spec.end_word end) }
 {
     match end {
-        RunEnd::Done => no_operand(alloc, "done"),
-        RunEnd::StepLimit { line } => one_operand(alloc, "step-limit", &line),
+        RunEnd::Done => word(line, "done"),
+        RunEnd::StepLimit { line: number } => one_operand(line, "step-limit", &number),
     }
 }
 
-/// The last line, with its newline: `end done` or `end step-limit LINE`.
-pub fn end_text(alloc: Global, end: RunEnd) -> Result<String, NoMemory>
-    ensures { IfOk result (λ t. string_bytes t ≡ spec.end_text end) }
-{
-    ended(one_operand(alloc, "end", &end_word(alloc, end)?)?)
-}
-
-fn outcome_text(alloc: Global, outcome: &Outcome) -> Result<String, NoMemory>
+/// What became of a caller's call.
+pub fn write_outcome(line: &mut String, outcome: &Outcome) -> Result<(), NoMemory>
     requires { outcome.now ≢ Outcome.Stopped }
-    ensures { IfOk result (λ t. string_bytes t ≡ spec.outcome_text outcome.now) }
+    ensures { OnOk result (string_bytes line.new ≡ string_bytes line.old ++ spec.outcome_text outcome.now) }
 {
     match outcome {
         Outcome::Reply { place, reply } => {
-            two_operands(alloc, "reply", place, &reply_text(alloc, reply)?)
+            one_operand(line, "reply", place)?;
+            blank(line)?;
+            write_reply(line, reply)
         }
         Outcome::Read {
             level,
             place,
             reach,
             reply,
-        } => read_text(alloc, "read", *level, *place, *reach, reply),
-        Outcome::Doubt => no_operand(alloc, "doubt"),
-        Outcome::Lost => no_operand(alloc, "lost"),
-        Outcome::Unsent => no_operand(alloc, "unsent"),
-        Outcome::Unanswered => no_operand(alloc, "unanswered"),
+        } => {
+            word(line, "read")?;
+            write_read(line, *level, *place, *reach, reply)
+        }
+        Outcome::Doubt => word(line, "doubt"),
+        Outcome::Lost => word(line, "lost"),
+        Outcome::Unsent => word(line, "unsent"),
+        Outcome::Unanswered => word(line, "unanswered"),
         Outcome::Stopped => unreachable!(),
     }
 }
 
-/// The line of a caller's call, with its newline: `caller I N OUTCOME`. `number` is the number of the call in
-/// the session.
-pub fn caller_text(
-    alloc: Global,
-    caller: u8,
-    number: u64,
-    outcome: &Outcome,
-) -> Result<String, NoMemory>
-    requires { outcome.now ≢ Outcome.Stopped }
-    ensures { IfOk result (λ t. string_bytes t ≡ spec.caller_text caller number outcome.now) }
+/// Writes the lines of items.
+fn write_items(text: &mut Printout, items: &[Item]) -> Result<(), NoMemory>
+    ensures { OnOk result (text.new ≡ text.old ++ items_spec.items_text items.now) }
 {
-    let outcome = outcome_text(alloc, outcome)?;
-    ended(three_operands(alloc, "caller", &caller, &number, &outcome)?)
+    'items: for item in items {
+        text.write_item(item)?;
+    }
+    Ok(())
 }
 
-/// The line of an event that a feed's listener heard, with its newline: `feed F C KIND S P EVENT`.
-pub fn feed_text(
-    alloc: Global,
-    feed: u8,
-    client: ClientId,
-    kind: WatchKind,
-    session: u64,
-    place: u64,
-    event: &Event,
-) -> Result<String, NoMemory>
-    ensures { IfOk result (λ t. string_bytes t ≡ spec.feed_text feed client kind session place event.now) }
+/// Writes the line `history L` and the lines of the L entries of a history, each a time and an act.
+fn write_history(text: &mut Printout, history: &[(u64, Act)]) -> Result<(), NoMemory>
+    ensures { OnOk result (text.new ≡ text.old ++ spec.history_text history.now) }
 {
-    let head = three_operands(alloc, "feed", &feed, &client, &watch_text(kind))?;
-    ended(told_text(alloc, head.as_str(), session, place, event)?)
+    text.write_history(history.len() as u64)?;
+    let mut place = 1;
+    'entries: for entry in history {
+        text.write_act(place, entry.0, &entry.1)?;
+        place += 1;
+    }
+    Ok(())
+}
+
+/// Writes the lines of calls without an outcome, each a session and a number.
+fn write_waiting(text: &mut Printout, waiting: &[(u64, u64)]) -> Result<(), NoMemory>
+    ensures { OnOk result (text.new ≡ text.old ++ items_spec.waiting_text waiting.now) }
+{
+    'calls: for call in waiting {
+        text.write_waiting(call.0, call.1)?;
+    }
+    Ok(())
+}
+
+/// The text of a report.
+pub fn whole_text(alloc: Global, report: &Report) -> Result<String, NoMemory>
+    ensures { IfOk result (λ t. string_bytes t ≡ texts.whole_text report.now) }
+{
+    let mut text = Printout::new(alloc);
+    text.write_head()?;
+    write_items(&mut text, report.items.as_slice())?;
+    write_history(&mut text, report.history.as_slice())?;
+    write_waiting(&mut text, report.waiting.as_slice())?;
+    text.write_end(report.end)?;
+    Ok(text.into_string())
 }

@@ -43,47 +43,50 @@ fn items_have_lines(rt: HostRuntime) -> Result<(), Fail> {
     let alloc = rt.alloc();
     let node = NodeId::new(9).ok_or("no node")?;
     let client = ClientId::new(16).ok_or("no client")?;
-    let reach = Item::Reach {
+    let mut text = Printout::new(alloc);
+    text.write_item(&Item::Reach {
         node,
         term: 2,
         arrival: 3,
         session: 4,
         number: 5,
-    };
-    assert_eq!(rt; item_text(alloc, &reach)?.as_str(), "reach 9 2.3 4 5\n");
-    let pending = Item::Pending {
+    })?;
+    text.write_item(&Item::Pending {
         number: 6,
         from: End::Client(client),
         to: End::Node(node),
         kind: PayloadKind::Keep,
-    };
-    assert_eq!(rt;
-        item_text(alloc, &pending)?.as_str(),
-        "pending 6 c16 n9 Keep\n"
-    );
-    let skip = Item::Skip {
+    })?;
+    text.write_item(&Item::Skip {
         reason: SkipReason::Busy { unanswered: 1 },
-    };
-    assert_eq!(rt; item_text(alloc, &skip)?.as_str(), "skip busy 1\n");
+    })?;
+    assert_eq!(rt;
+        text.into_string().as_str(),
+        "reach 9 2.3 4 5\npending 6 c16 n9 Keep\nskip busy 1\n"
+    );
     Ok(())
 }
 
 #[test]
-fn a_history_has_lines(rt: HostRuntime) -> Result<(), Fail> {
+fn a_report_has_lines(rt: HostRuntime) -> Result<(), Fail> {
     let alloc = rt.alloc();
     let put = Act::Do {
         session: 2,
         name: name(alloc, b"m")?,
         op: put_for(alloc)?,
     };
-    let history = [(0, Act::Nothing), (499, put)];
+    let mut history = List::new(alloc);
+    history.push((0, Act::Nothing))?;
+    history.push((499, put))?;
+    let report = Report {
+        items: List::new(alloc),
+        history,
+        waiting: List::new(alloc),
+        end: RunEnd::StepLimit { line: 9 },
+    };
     assert_eq!(rt;
-        history_text(alloc, &history)?.as_str(),
-        "history 2\n1 0 nothing\n2 499 do 2 map m put_for a \"1\\ 500\n"
-    );
-    assert_eq!(rt;
-        end_text(alloc, RunEnd::StepLimit { line: 9 })?.as_str(),
-        "end step-limit 9\n"
+        whole_text(alloc, &report)?.as_str(),
+        "report 1\nhistory 2\n1 0 nothing\n2 499 do 2 map m put_for a \"1\\ 500\nend step-limit 9\n"
     );
     Ok(())
 }
@@ -94,10 +97,6 @@ fn a_report_is_written_in_json(rt: HostRuntime) -> Result<(), Fail> {
     let mut items = List::new(alloc);
     items.push(called(alloc)?)?;
     let waiting = waiting_of(alloc, items.as_slice())?;
-    assert_eq!(rt;
-        waiting_text(alloc, waiting.as_slice())?.as_str(),
-        "waiting 2 1\n"
-    );
     let report = Report {
         items,
         history: List::new(alloc),
@@ -112,7 +111,9 @@ fn a_report_is_written_in_json(rt: HostRuntime) -> Result<(), Fail> {
 }
 
 #[test]
-fn a_caller_has_lines(rt: HostRuntime) -> Result<(), Fail> {
+fn a_caller_and_a_feed_have_lines(rt: HostRuntime) -> Result<(), Fail> {
+    let alloc = rt.alloc();
+    let client = ClientId::new(2).ok_or("no client")?;
     let read = Outcome::Read {
         level: Level::Lin,
         place: 3,
@@ -122,25 +123,17 @@ fn a_caller_has_lines(rt: HostRuntime) -> Result<(), Fail> {
             fence: 3,
         },
     };
-    assert_eq!(rt;
-        caller_text(rt.alloc(), 1, 7, &read)?.as_str(),
-        "caller 1 7 read lin 3 2.1 holder 2 3\n"
-    );
-    Ok(())
-}
-
-#[test]
-fn a_feed_has_lines(rt: HostRuntime) -> Result<(), Fail> {
-    let alloc = rt.alloc();
-    let client = ClientId::new(2).ok_or("no client")?;
     let event = Event::Elected {
         name: name(alloc, b"g")?,
         session: 2,
         term: 6,
     };
+    let mut text = Printout::new(alloc);
+    text.write_caller(1, 7, &read)?;
+    text.write_feed(1, client, WatchKind::All, 2, 6, &event)?;
     assert_eq!(rt;
-        feed_text(alloc, 1, client, WatchKind::All, 2, 6, &event)?.as_str(),
-        "feed 1 2 all 2 6 elected g 2 6\n"
+        text.into_string().as_str(),
+        "caller 1 7 read lin 3 2.1 holder 2 3\nfeed 1 2 all 2 6 elected g 2 6\n"
     );
     Ok(())
 }

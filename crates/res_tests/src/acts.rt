@@ -2,7 +2,7 @@
 ghost use Rattle.std.specs.Prelude.{◌≡◌, false, OnOk};
 
 use ax_types::{Act, NoMemory, Turn, WindowCall};
-use report_text::{event_text, reply_text};
+use report_text::{write_event, write_reply};
 use res_registry::Book;
 use std::alloc::Global;
 use std::process::Abort;
@@ -14,10 +14,11 @@ use text_words::call;
 pub type Row = (u64, u64, u64, &'static str, &'static str);
 
 fn turn_text(alloc: Global, turn: &Turn) -> Result<String, NoMemory> {
-    let mut text = reply_text(alloc, &turn.reply)?;
+    let mut text = String::new(alloc);
+    write_reply(&mut text, &turn.reply)?;
     for (session, event) in turn.told.iter() {
-        let event = event_text(alloc, event)?;
-        write!(text, ", {session} {event}")?;
+        write!(text, ", {session} ")?;
+        write_event(&mut text, event)?;
     }
     Ok(text)
 }
@@ -48,8 +49,9 @@ fn called(alloc: Global, book: &mut Book, row: &Row, line: &str) -> Result<Strin
             acted(alloc, book, row, &Act::Do { session, name, op })
         }
         WindowCall::Query { name, query, .. } => {
-            let reply = book.ask(&name, &query)?;
-            Ok(reply_text(alloc, &reply)?)
+            let mut text = String::new(alloc);
+            write_reply(&mut text, &book.ask(&name, &query)?)?;
+            Ok(text)
         }
     }
 }

@@ -6,19 +6,22 @@ ghost use Rattle.run_top.specs.Answers as answers;
 ghost use Rattle.run_top.specs.Runs as runs;
 
 use crate::run::{Call, Shown, run};
-use ax_types::{ClientId, NoMemory, NodeId, RunEnd};
-use report_text::{end_text, history_text, items_text};
+use ax_types::{ClientId, List, NoMemory, NodeId, Report, RunEnd};
+use report_text::whole_text;
 use std::alloc::Global;
 
 /// The report of a run in which no call waits.
-fn text_of(alloc: Global, shown: &Shown) -> Result<String, NoMemory>
-    ensures { IfOk result (λ t. string_bytes t ≡ spec.head_text ++ (items_spec.items_text shown.now.items.items
-        ++ (spec.history_text shown.now.history.items ++ spec.end_text run_end.Done))) }
+fn text_of(alloc: Global, shown: Shown) -> Result<String, NoMemory>
+    ensures { IfOk result (λ t. string_bytes t ≡ spec.head_text ++ (items_spec.items_text shown.items.items
+        ++ (spec.history_text shown.history.items ++ spec.end_text run_end.Done))) }
 {
-    let items = items_text(alloc, shown.items.as_slice())?;
-    let history = history_text(alloc, shown.history.as_slice())?;
-    let end = end_text(alloc, RunEnd::Done)?;
-    Ok(format!(in alloc; "report 1\n{items}{history}{end}")?)
+    let report = Report {
+        items: List::from_vec(shown.items),
+        history: List::from_vec(shown.history),
+        waiting: List::new(alloc),
+        end: RunEnd::Done,
+    };
+    whole_text(alloc, &report)
 }
 
 /// Runs the calls, and gives the report of that.
@@ -33,5 +36,5 @@ pub fn report_of_calls(
     requires few { length calls.now ≤ 1000 }
     ensures { IfOk result (λ t. string_bytes t ≡ answers.run_report (map runs.narrow_call calls.now)) }
 {
-    text_of(alloc, &run(alloc, node, client, calls)?)
+    text_of(alloc, run(alloc, node, client, calls)?)
 }

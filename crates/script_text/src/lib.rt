@@ -10,4 +10,4 @@ mod tests;
 mod texts;
 
 pub use scripts::{ScriptRefused, read_script};
-pub use texts::step_text;
+pub use texts::write_step;

@@ -1,5 +1,5 @@
 //! What only `race` reads, and lines that want more than one node or client; examples/check tries the lines of `run`.
-use crate::{ScriptRefused, read_script, step_text};
+use crate::{ScriptRefused, read_script, write_step};
 use ax_types::{Line, NoMemory, Why};
 use std::alloc::Global;
 use std::test::Fail;
@@ -99,7 +99,11 @@ fn odd_line(
 fn only_step(alloc: Global, text: &str) -> Result<Option<String>, NoMemory> {
     match read_script(alloc, text.as_bytes(), false) {
         Ok(script) => match script.lines.as_slice() {
-            [(_, Line::Do(step))] => Ok(Some(step_text(alloc, step)?)),
+            [(_, Line::Do(step))] => {
+                let mut text = String::new(alloc);
+                write_step(&mut text, step)?;
+                Ok(Some(text))
+            }
             _ => Ok(None),
         },
         Err(_) => Ok(None),

@@ -1,8 +1,8 @@
 use Rattle.std.proofs.Common.{◌≡◌, string_bytes, ◌++◌, codes, drop}
 use Rattle.spec_report.specs.Replies as spec
-use Rattle.report_text.proofs.replies.members_text.Given as goal
+use Rattle.report_text.proofs.replies.write_members.Given as goal
 
 -- what is written, and the numbers that are left
 abbrev pub invariant-sessions : goal.invariant-sessions
 invariant-sessions l =
-    string_bytes l.text ++ spec.numbers_text (drop l.session-index l.sessions) ≡ codes "members" ++ spec.numbers_text l.sessions
+    string_bytes l.line ++ spec.numbers_text (drop l.session-index l.sessions) ≡ string_bytes l.fn.line ++ (codes "members" ++ spec.numbers_text l.sessions)

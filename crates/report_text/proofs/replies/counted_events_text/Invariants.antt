@@ -1,7 +1,0 @@
-use Rattle.std.proofs.Common.{◌≡◌, string_bytes, ◌++◌, drop}
-use Rattle.spec_report.specs.Replies as spec
-use Rattle.report_text.proofs.replies.counted_events_text.Given as goal
-
--- what is written, and the events that are left
-abbrev pub invariant-events : goal.invariant-events
-invariant-events l = string_bytes l.text ++ spec.events_text (drop l.event-index l.events) ≡ spec.counted_events_text l.events
