@@ -1,11 +1,14 @@
 -- What a change of the end of one key makes of the index, at that key and at each other.
-use Rattle.std.proofs.Common.{◌≡◌, ℕ, ◌∙◌, refl, ap, Bool, true, false, cond, nat_eq, ◌&&◌, List, Option, Some, None}
+use Rattle.std.proofs.Common.{◌≡◌, ℕ, ◌∙◌, refl, sym, ap, Bool, true, false, cond, nat_eq, ◌&&◌, List, Option, Some, None}
 use Rattle.std.specs.Prelude.{if◌then◌else◌}
 use Rattle.std.specs.declared.cmp.Ordering.{Ordering}
 use Rattle.std.specs.declared.cmp.Ordering.TheVariants.{Less, Equal, Greater}
 use Rattle.std.specs.Ordering.{nat_cmp, is_eq, ordering_then}
 use Rattle.std.specs.Option.{option_eq}
 use Rattle.std.specs.BTreeMap.{is_at}
+use Rattle.std.proofs.lemmas.Map.Lookups.{exact_unsigned}
+use Rattle.std.proofs.lemmas.Map.Views.{tells_apart, exact_unsigned_eq}
+use Rattle.std.proofs.lemmas.Bool.{eq-eqb}
 use Rattle.res_deadlines.specs.Deadlines as deadlines
 
 pub is_eq-ordering_then : (a b : Ordering) → is_eq (ordering_then a b) ≡ (is_eq a && is_eq b)
@@ -24,6 +27,39 @@ cond_and_true false x y = refl
 same_twice : (b x : Bool) → (if b then x else x) ≡ x
 same_twice true x = refl
 same_twice false x = refl
+
+-- two ends at one time are one end
+same_end : (a b time : ℕ) → is_at (nat_cmp a) time ≡ true → is_at (nat_cmp b) time ≡ true → a ≡ b
+same_end a b time e f = tells_apart exact_unsigned a time e ∙ sym (tells_apart exact_unsigned b time f)
+
+-- the end that was is out, and the end that is is in, where the index had the end that was
+pub changed_end : (before after : Option ℕ) (time : ℕ)
+    → (if option_eq nat_eq before after then deadlines.is_end before time else cond (deadlines.is_end before time) false (cond (deadlines.is_end after time) true (deadlines.is_end before time)))
+    ≡ deadlines.is_end after time
+changed_end None None time = refl
+changed_end None (Some b) time = by_truth (is_at (nat_cmp b) time)
+  where
+    by_truth : (y : Bool) → cond y true false ≡ y
+    by_truth true = refl
+    by_truth false = refl
+changed_end (Some a) None time = by_truth (is_at (nat_cmp a) time)
+  where
+    by_truth : (x : Bool) → cond x false x ≡ false
+    by_truth true = refl
+    by_truth false = refl
+changed_end (Some a) (Some b) time = by_same (nat_eq a b) refl
+  where
+    apart : (x y : Bool) → is_at (nat_cmp a) time ≡ x → is_at (nat_cmp b) time ≡ y → nat_eq a b ≡ false → cond x false (cond y true x) ≡ y
+    apart true true p q e = let t : nat_eq a b ≡ true = eq-eqb a b (same_end a b time p q) in cc
+    apart true false p q e = refl
+    apart false true p q e = refl
+    apart false false p q e = refl
+
+    by_same : (same : Bool) → nat_eq a b ≡ same
+        → (if same then is_at (nat_cmp a) time else cond (is_at (nat_cmp a) time) false (cond (is_at (nat_cmp b) time) true (is_at (nat_cmp a) time)))
+        ≡ is_at (nat_cmp b) time
+    by_same true e = ap (λ (n : ℕ). is_at (nat_cmp n) time) (exact_unsigned_eq a b e)
+    by_same false e = apart (is_at (nat_cmp a) time) (is_at (nat_cmp b) time) refl refl e
 
 module _ {K : Type 0} (order : K → K → Ordering) where
   is_deadline-by_parts : (end : Option ℕ) (at : K) (time : ℕ) (key : K) → deadlines.is_deadline order end at time key ≡ (deadlines.is_end end time && is_at (order at) key)

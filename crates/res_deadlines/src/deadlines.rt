@@ -68,12 +68,21 @@ impl<K: Ord + Duplicate> Deadlines<K> {
         ensures ok { OnOk result (deadlines.ChangesDeadline K.cmp self.old self.new key.now before after) }
         ensures err { OnErr result (self.new ≡ self.old) }
     {
-        if before != after {
-            let again = key.copy()?;
-            self.add(after, key)?;
-            self.forget(before, again);
+        if before == after {
+            return Ok(());
         }
-        Ok(())
+        match before {
+            None => {
+                self.add(after, key)?;
+                Ok(())
+            }
+            Some(_) => {
+                let again = key.copy()?;
+                self.add(after, key)?;
+                self.forget(before, again);
+                Ok(())
+            }
+        }
     }
 
     /// Takes all out.

@@ -1,7 +1,7 @@
 //! Groups, whose earliest member leads.
 #![tactic(auto)]
 
-ghost use Rattle.std.specs.Prelude.{◌≡◌, ℕ, false, true, ◌∷◌, [], ◌++◌, option_to_list, IfOk, OnOk, OnErr, slice_get};
+ghost use Rattle.std.specs.Prelude.{◌≡◌, ℕ, false, true, ◌||◌, ◌∷◌, [], ◌++◌, option_to_list, IfOk, OnOk, OnErr, slice_get};
 ghost use Rattle.spec_book.specs.Dict as dicts;
 ghost use Rattle.spec_book.specs.Resources as resources;
 ghost use Rattle.spec_book.specs.Owners as owners;
@@ -11,7 +11,6 @@ use ax_types::{Duplicate, Event, GroupOp, GroupQuery, List, Name, NoMemory, Repl
 use res_sessions::{Listeners, SessionQueue};
 use std::alloc::Global;
 use std::marker::Model;
-use std::mem;
 
 /// The member that leads a group, with its term: the place of the act that made it leader.
 #[derive(Clone, Copy)]
@@ -95,16 +94,22 @@ impl GroupBox {
         ensures after { OnOk result (self.new ≡ (owners.group_end name.now place session (owners.group_unlistened session self.old)).state) }
         ensures err { OnErr result (self.new ≡ self.old) }
     {
-        let mut listeners = self.listeners.copy()?;
-        listeners.unlisten(session);
-        let before = mem::replace(&mut self.listeners, listeners);
-        match self.depart(name, place, session) {
-            Ok(turn) => Ok(turn),
-            Err(NoMemory) => {
-                self.listeners = before;
-                Err(NoMemory)
-            }
+        if !self.members.contains(session) {
+            self.unlisten(session);
+            return Ok(Turn::quiet(self.alloc, Reply::Done));
         }
+        let next = self.members.first_without(session);
+        let told = self.tell_departed(name, place, session, next)?;
+        let turn = self.departed(place, session, told);
+        self.unlisten(session);
+        Ok(turn)
+    }
+
+    /// Whether the session is a member or listens.
+    pub fn knows(&self, session: u64) -> bool
+        ensures { result ≡ (dicts.has_session self.now.members session || dicts.has_session self.now.listeners session) }
+    {
+        self.members.contains(session) || self.listeners.contains(session)
     }
 
     /// The session listens no more.
@@ -156,6 +161,36 @@ impl GroupBox {
                 if !self.leads(session) {
                     let elected = elected(name, session, place)?;
                     self.listeners.tell_too(&mut told, &elected)?;
+                }
+                Ok(told)
+            }
+        }
+    }
+
+    /// What the listeners but this session are told where it is no member any more, after which this member is the first: that
+    /// it left, and then the new leader, if that makes one.
+    fn tell_departed(
+        &self,
+        name: &Name,
+        place: u64,
+        session: u64,
+        first: Option<u64>,
+    ) -> Result<List<(u64, Event)>, NoMemory>
+        ensures { IfOk result (λ told. told ≡ resources.tell (dicts.without_session self.now.listeners session) (Event.Left name.now session)
+            ++ owners.tell_elected name.now place (option_to_list first) self.now.leader (dicts.without_session self.now.listeners session)) }
+    {
+        let mut told = List::new(self.alloc);
+        let left = Event::Left {
+            name: name.copy()?,
+            session,
+        };
+        self.listeners.tell_others(&mut told, session, &left)?;
+        match first {
+            None => Ok(told),
+            Some(member) => {
+                if !self.leads(member) {
+                    let elected = elected(name, member, place)?;
+                    self.listeners.tell_others(&mut told, session, &elected)?;
                 }
                 Ok(told)
             }
@@ -243,12 +278,20 @@ impl GroupBox {
             session,
         };
         let told = self.tell_change(name, place, &change, first)?;
+        Ok(self.departed(place, session, told))
+    }
+
+    /// The session is no member any more, and the first member leads.
+    fn departed(&mut self, place: u64, session: u64, told: List<(u64, Event)>) -> Turn
+        ensures turn { result ≡ record { reply = Reply.Done; told = told } }
+        ensures after { self.new ≡ record self.old { members = dicts.without_session self.old.members session; leader = owners.leader_of place (dicts.without_session self.old.members session) self.old.leader } }
+    {
         self.members.remove(session);
         self.elect(place);
-        Ok(Turn {
+        Turn {
             reply: Reply::Done,
             told,
-        })
+        }
     }
 
     /// The session listens from now on.

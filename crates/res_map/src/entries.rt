@@ -3,6 +3,7 @@ ghost use Rattle.std.specs.Prelude.{◌≡◌, ◌<◌, ◌^◌, List as Items, 
 ghost use Rattle.std.specs.Option.{option_copied};
 ghost use Rattle.std.specs.List.Sorted.{IsStrictlySortedBy};
 ghost use Rattle.std.specs.Map.{keys_of};
+ghost use Rattle.spec_book.specs.Limits as limits;
 ghost use Rattle.spec_book.specs.Dict as dicts;
 ghost use Rattle.res_map.specs.Lives as lives;
 ghost use Rattle.res_map.specs.Put as puts;
@@ -77,6 +78,13 @@ impl Entries {
         self.items.get(key)
     }
 
+    /// Whether there is no room for a new key.
+    pub fn is_full(&self) -> bool
+        ensures { result ≡ limits.is_full self.now }
+    {
+        self.items.len() >= ROOM
+    }
+
     /// Whether a key has an entry.
     pub fn contains(&self, key: &Key) -> bool
         ensures { result ≡ is_some (dicts.found self.now key.now) }
@@ -106,7 +114,7 @@ impl Entries {
     }
 
     /// Puts an item at a key that has none. The entries are unchanged after want of memory.
-    fn add(&mut self, key: &Key, item: MapItem) -> Result<(), NoMemory>
+    pub fn add(&mut self, key: &Key, item: MapItem) -> Result<(), NoMemory>
         requires { dicts.found self.old key.now ≡ None }
         ensures ok { OnOk result (self.new ≡ dicts.with_entry self.old key.now item) }
         ensures err { OnErr result (self.new ≡ self.old) }
@@ -125,18 +133,18 @@ impl Entries {
     }
 
     /// Takes the entry of a key out. Answers what stood there.
-    pub fn remove(&mut self, key: Key) -> Option<MapItem>
-        ensures old { result ≡ dicts.found self.old key }
-        ensures after { self.new ≡ dicts.without_entry self.old key }
+    pub fn remove(&mut self, key: &Key) -> Option<MapItem>
+        ensures old { result ≡ dicts.found self.old key.now }
+        ensures after { self.new ≡ dicts.without_entry self.old key.now }
     {
-        let item = self.items.remove(&key)?;
-        self.deadlines.forget(item.end(), key);
+        let (own, item) = self.items.remove_entry(key)?;
+        self.deadlines.forget(item.end(), own);
         Some(item)
     }
 
     /// Takes the entries of the keys out.
-    pub fn remove_all(&mut self, keys: BTreeSet<Key>)
-        ensures { self.new ≡ lives.without_keys self.old keys.keys }
+    pub fn remove_all(&mut self, keys: &BTreeSet<Key>)
+        ensures { self.new ≡ lives.without_keys self.old keys.now.keys }
     {
         for key in keys {
             self.remove(key);

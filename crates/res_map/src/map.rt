@@ -1,4 +1,4 @@
-ghost use Rattle.std.specs.Prelude.{◌≡◌, ℕ, ◌<◌, List as Items, ◌++◌, IfSome, IfOk, OnOk, OnErr, []};
+ghost use Rattle.std.specs.Prelude.{◌≡◌, ℕ, ◌<◌, List as Items, ◌++◌, None, IfSome, IfOk, OnOk, OnErr, []};
 ghost use Rattle.std.specs.Map.{keys_of};
 ghost use Rattle.spec_book.specs.Dict as dicts;
 ghost use Rattle.spec_book.specs.Resources as resources;
@@ -77,7 +77,7 @@ impl MapBox {
     {
         let ended = self.entries.ended(time)?;
         let told = self.tell_ended(name, &ended)?;
-        self.entries.remove_all(ended);
+        self.entries.remove_all(&ended);
         Ok(told)
     }
 
@@ -116,6 +116,13 @@ impl MapBox {
     {
         self.unlisten(session);
         Ok(Turn::quiet(self.alloc, Reply::Done))
+    }
+
+    /// Whether the session listens.
+    pub fn knows(&self, session: u64) -> bool
+        ensures { result ≡ dicts.has_session self.now.listeners session }
+    {
+        self.listeners.contains(session)
     }
 
     /// The session listens no more.
@@ -159,12 +166,30 @@ impl MapBox {
         ensures err { OnErr result (self.new ≡ self.old) }
     {
         match self.entries.get(key) {
-            None => self.put(name, key, text, None),
+            None => self.put_new(name, key, text),
             Some(old) => {
                 let reply = Reply::Found(old.text().copy()?);
                 Ok(Turn::quiet(self.alloc, reply))
             }
         }
+    }
+
+    /// Puts a text at a key that is known to have none.
+    fn put_new(&mut self, name: &Name, key: &Key, text: &Text) -> Result<Turn, NoMemory>
+        requires { dicts.found self.old.entries key.now ≡ None }
+        ensures ok { IfOk result (λ turn. turn ≡ (map_turns.put_item name.now key.now (map_turns.lasting text.now) None self.old).turn) }
+        ensures after { OnOk result (self.new ≡ (map_turns.put_item name.now key.now (map_turns.lasting text.now) None self.old).state) }
+        ensures err { OnErr result (self.new ≡ self.old) }
+    {
+        if self.entries.is_full() {
+            return Ok(Turn::quiet(self.alloc, Reply::Full));
+        }
+        let told = self.tell_changed(name, key, text)?;
+        self.entries.add(key, MapItem::new(text.copy()?, None))?;
+        Ok(Turn {
+            reply: Reply::Nothing,
+            told,
+        })
     }
 
     /// Puts a text at a key that has one.
@@ -189,10 +214,9 @@ impl MapBox {
         if !self.entries.contains(key) {
             return Ok(Turn::quiet(self.alloc, Reply::Nothing));
         }
-        let own = key.copy()?;
         let mut told = List::new(self.alloc);
         self.tell_removed(&mut told, name, key)?;
-        match self.entries.remove(own) {
+        match self.entries.remove(key) {
             None => Ok(Turn::quiet(self.alloc, Reply::Nothing)),
             Some(old) => Ok(Turn {
                 reply: Reply::Found(old.into_text()),

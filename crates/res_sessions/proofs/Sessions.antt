@@ -2,7 +2,10 @@
 use Rattle.std.proofs.Common.{◌≡◌, ℕ, suc, ◌+◌, ◌<◌, ◌≤◌, not, Bool, true, false, cond, ◌||◌, nat_lt, List, [], ◌∷◌, ◌++◌, length, Option, Some, None, slice_get, position, refl, sym, ap, ◌∙◌, subst, arith}
 use Rattle.std.proofs.lemmas.Bool.{false≢true, ltb-true, ltb-false}
 use Rattle.std.proofs.lemmas.Bool.Decides.{nat_tests}
-use Rattle.std.specs.List.{list_any, position_or_len, remove}
+use Rattle.std.specs.List.{list_any, position_or_len, remove, AllByRecursion}
+use Rattle.std.specs.List.Sorted.{IsStrictlySortedBy}
+use Rattle.std.specs.declared.cmp.Ordering.TheVariants.{Less}
+use Rattle.std.proofs.lemmas.Map.Keys.{sorted_head}
 use Rattle.std.proofs.lemmas.List.Quantifiers.{position-Some}
 use Rattle.std.specs.Prelude.{◌↔◌, IsSome, OnSome}
 use Rattle.std.specs.Ordering.{nat_cmp}
@@ -45,6 +48,23 @@ remove_key-absent p (x ∷ xs) absent = step (p x) (list_any p xs) absent (remov
     step : (b any : Bool) → (b || any) ≡ false → (any ≡ false → remove_key p xs ≡ xs) → cond b xs (x ∷ remove_key p xs) ≡ x ∷ xs
     step true any h rest = absurd (false≢true (sym h))
     step false any h rest = ap (λ ys. x ∷ ys) (rest h)
+
+-- sessions in ascending order without the first, and without another
+absent_above : (x : ℕ) (xs : List ℕ) → AllByRecursion (λ y. nat_cmp x y ≡ Less) xs → dicts.has_session xs x ≡ false
+absent_above x [] a = refl
+absent_above x (y ∷ xs) a = rw (a.0, absent_above x xs a.1) refl
+
+pub without-first : (x s : ℕ) (xs : List ℕ) → x ≡ s → IsStrictlySortedBy nat_cmp (x ∷ xs) → dicts.without_session (x ∷ xs) s ≡ dicts.without_session xs s
+without-first x s xs same sorted =
+    let here : is_at (nat_cmp s) x ≡ true = grind (arith, nat_tests) in
+    let P : ℕ → Type 0 = λ n. dicts.has_session xs n ≡ false in
+    let absent : dicts.has_session xs s ≡ false = subst P same (absent_above x xs (sorted_head nat_cmp x xs sorted)) in
+    rw here (sym (remove_key-absent (is_at (nat_cmp s)) xs absent))
+
+pub without-another : (x s : ℕ) (xs : List ℕ) → (x ≡ s → ⊥) → dicts.without_session (x ∷ xs) s ≡ x ∷ dicts.without_session xs s
+without-another x s xs other =
+    let apart : is_at (nat_cmp s) x ≡ false = grind (arith, nat_tests) in
+    rw apart refl
 
 -- what three tests of equality among three numbers tell of one another
 pub three_tests : (s x q : ℕ) → (is_at (nat_cmp s) x ≡ true → is_at (nat_cmp s) q ≡ true → q ≡ x)

@@ -106,6 +106,24 @@ impl Listeners {
         }
         Ok(())
     }
+
+    /// Appends the event for each listener but this session, in ascending order of session, to what is told already. After
+    /// want of memory the list may have some of them.
+    pub fn tell_others(
+        &self,
+        told: &mut List<(u64, Event)>,
+        session: u64,
+        event: &Event,
+    ) -> Result<(), NoMemory>
+        ensures { OnOk result (told.new ≡ told.old ++ resources.tell (dicts.without_session self.now session) event.now) }
+    {
+        for other in self.sessions.iter() {
+            if *other != session {
+                told.push((*other, event.copy()?))?;
+            }
+        }
+        Ok(())
+    }
 }
 
 impl Duplicate for Listeners {

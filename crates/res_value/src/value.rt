@@ -1,4 +1,5 @@
 ghost use Rattle.std.specs.Prelude.{◌≡◌, ℕ, IfOk, OnOk, OnErr, []};
+ghost use Rattle.spec_book.specs.Dict as dicts;
 ghost use Rattle.spec_book.specs.Resources as resources;
 ghost use Rattle.spec_book.specs.Scalars as scalars;
 
@@ -74,6 +75,13 @@ impl ValueBox {
         Ok(Turn::quiet(self.alloc, Reply::Done))
     }
 
+    /// Whether the session listens.
+    pub fn knows(&self, session: u64) -> bool
+        ensures { result ≡ dicts.has_session self.now.listeners session }
+    {
+        self.listeners.contains(session)
+    }
+
     /// The session listens no more.
     pub fn unlisten(&mut self, session: u64)
         ensures { self.new ≡ scalars.value_unlistened session self.old }
@@ -81,7 +89,7 @@ impl ValueBox {
         self.listeners.unlisten(session);
     }
 
-    /// What the listeners are told of a new text.
+    /// What the listeners are told of a new text. Nothing is copied where nobody listens.
     fn tell_set(&self, name: &Name, text: &Text) -> Result<List<(u64, Event)>, NoMemory>
         ensures { IfOk result (λ told. told ≡ resources.tell self.now.listeners (Event.Set name.now text.now)) }
     {
@@ -92,6 +100,16 @@ impl ValueBox {
             name: name.copy()?,
             text: text.copy()?,
         })
+    }
+
+    /// What the listeners are told where the text goes. Nothing is copied where nobody listens.
+    fn tell_cleared(&self, name: &Name) -> Result<List<(u64, Event)>, NoMemory>
+        ensures { IfOk result (λ told. told ≡ resources.tell self.now.listeners (Event.Cleared name.now)) }
+    {
+        if self.listeners.is_empty() {
+            return Ok(List::new(self.alloc));
+        }
+        self.listeners.tell(&Event::Cleared { name: name.copy()? })
     }
 
     /// Puts a text there.
@@ -147,7 +165,7 @@ impl ValueBox {
         if self.text.is_none() {
             return Ok(Turn::quiet(self.alloc, Reply::Nothing));
         }
-        let told = self.listeners.tell(&Event::Cleared { name: name.copy()? })?;
+        let told = self.tell_cleared(name)?;
         let reply = taken_reply(self.text.take());
         Ok(Turn { reply, told })
     }
