@@ -1,7 +1,0 @@
-pub mod Senders
-pub mod Between
-pub mod Pairing
-pub mod Taking
-pub mod Making
-pub mod Agreeing
-pub mod Saved
