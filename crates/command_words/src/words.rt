@@ -154,19 +154,58 @@ fn number_in(value: Option<&str>, low: u64, high: u64) -> Option<u64>
     number(value?.as_bytes(), low, high)
 }
 
+/// The flags and options that a command takes.
+#[derive(Clone, Copy)]
+struct Takes {
+    json: bool,
+    steps: bool,
+    /// `--nodes` with `--timeout`.
+    options: bool,
+}
+
+impl Takes {
+    /// None of them.
+    const NONE: Takes = Takes {
+        json: false,
+        steps: false,
+        options: false,
+    };
+
+    /// `--json` alone.
+    const JSON: Takes = Takes {
+        json: true,
+        steps: false,
+        options: false,
+    };
+
+    /// `--steps` alone.
+    const STEPS: Takes = Takes {
+        json: false,
+        steps: true,
+        options: false,
+    };
+
+    /// `--nodes` with `--timeout` alone.
+    const OPTIONS: Takes = Takes {
+        json: false,
+        steps: false,
+        options: true,
+    };
+}
+
 /// Whether no flag or option is given but those that the command takes.
-fn takes_only(json: bool, steps: bool, options: bool, given: &Given<'_>) -> bool
-    ensures { result ≡ command_lines.takes_only json steps options (command_words_given.given_behind given.now) }
+fn takes_only(takes: Takes, given: &Given<'_>) -> bool
+    ensures { result ≡ command_lines.takes_only takes.json takes.steps takes.options (command_words_given.given_behind given.now) }
 {
-    (json || !given.json)
-        && ((steps || !given.steps)
-            && (options || !(given.nodes.is_some() || given.timeout.is_some())))
+    (takes.json || !given.json)
+        && ((takes.steps || !given.steps)
+            && (takes.options || !(given.nodes.is_some() || given.timeout.is_some())))
 }
 
 fn run(given: &Given<'_>) -> Option<Command>
     ensures { result ≡ command_lines.run_of (command_words_given.given_behind given.now) }
 {
-    if takes_only(true, false, false, given) && given.operand.is_none() {
+    if takes_only(Takes::JSON, given) && given.operand.is_none() {
         Some(Command::Run { json: given.json })
     } else {
         None
@@ -176,7 +215,7 @@ fn run(given: &Given<'_>) -> Option<Command>
 fn run_in(alloc: Global, given: &Given<'_>) -> Result<Option<Command>, NoMemory>
     ensures { IfOk result (λ read. read ≡ command_lines.run_in_of (command_words_given.given_behind given.now)) }
 {
-    if !takes_only(true, false, false, given) {
+    if !takes_only(Takes::JSON, given) {
         return Ok(None);
     }
     match given.operand {
@@ -191,7 +230,7 @@ fn run_in(alloc: Global, given: &Given<'_>) -> Result<Option<Command>, NoMemory>
 fn generate(given: &Given<'_>) -> Option<Command>
     ensures { result ≡ command_lines.gen_of (command_words_given.given_behind given.now) }
 {
-    if !takes_only(false, false, false, given) {
+    if !takes_only(Takes::NONE, given) {
         return None;
     }
     Some(Command::Gen {
@@ -202,7 +241,7 @@ fn generate(given: &Given<'_>) -> Option<Command>
 fn race(given: &Given<'_>) -> Option<Command>
     ensures { result ≡ command_lines.race_of (command_words_given.given_behind given.now) }
 {
-    if takes_only(false, true, false, given) && given.operand.is_none() {
+    if takes_only(Takes::STEPS, given) && given.operand.is_none() {
         Some(Command::Race { steps: given.steps })
     } else {
         None
@@ -212,7 +251,7 @@ fn race(given: &Given<'_>) -> Option<Command>
 fn upgrade(alloc: Global, given: &Given<'_>) -> Result<Option<Command>, NoMemory>
     ensures { IfOk result (λ read. read ≡ command_lines.upgrade_of (command_words_given.given_behind given.now)) }
 {
-    if !takes_only(false, false, false, given) {
+    if !takes_only(Takes::NONE, given) {
         return Ok(None);
     }
     match given.operand {
@@ -226,7 +265,7 @@ fn upgrade(alloc: Global, given: &Given<'_>) -> Result<Option<Command>, NoMemory
 fn audit(given: &Given<'_>) -> Option<Command>
     ensures { result ≡ command_lines.audit_of (command_words_given.given_behind given.now) }
 {
-    if !takes_only(false, false, false, given) {
+    if !takes_only(Takes::NONE, given) {
         return None;
     }
     Some(Command::Audit {
@@ -244,7 +283,7 @@ fn sizes(given: &Given<'_>) -> Option<(u8, u64)>
 fn salvage(alloc: Global, given: &Given<'_>) -> Result<Option<Command>, NoMemory>
     ensures { IfOk result (λ read. read ≡ command_lines.salvage_of (command_words_given.given_behind given.now)) }
 {
-    if !takes_only(false, false, true, given) {
+    if !takes_only(Takes::OPTIONS, given) {
         return Ok(None);
     }
     match (given.operand, sizes(given)) {

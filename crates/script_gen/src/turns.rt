@@ -4,6 +4,7 @@ ghost use Rattle.ax_types.specs.Letters as letters;
 ghost use Rattle.ax_types.specs.declared.scripts.Line.TheVariants as line;
 ghost use Rattle.ax_types.specs.declared.steps.Step.TheVariants as step;
 ghost use Rattle.spec_gen.specs.Generator as generators;
+ghost use Rattle.script_gen.specs.Deeds as deeds;
 
 use crate::draws::Draws;
 use ax_types::{
@@ -137,32 +138,62 @@ fn fresh_line(alloc: Global, client: ClientId) -> Result<Line, NoMemory>
     }))
 }
 
-/// The line of a client's turn, by the number that was drawn for what it does.
-fn turn_of(alloc: Global, client: ClientId, what: u32, draws: &mut Draws) -> Result<Line, NoMemory>
-    ensures { IfOk result (λ line. generators.turn_for client what draws.old.state ≡ record { line = line; state = draws.new.state }) }
+/// What a client does in its turn.
+#[derive(Clone, Copy)]
+enum Deed {
+    Add,
+    Put,
+    Get,
+    Fresh,
+    Settle,
+    Keep,
+}
+
+impl Deed {
+    /// What the number that was drawn for it stands for.
+    fn of(number: u32) -> Deed
+        ensures { result ≡ deeds.deed_of number }
+    {
+        match number {
+            0..=3 => Deed::Add,
+            4..=5 => Deed::Put,
+            6 => Deed::Get,
+            7 => Deed::Fresh,
+            8 => Deed::Settle,
+            _ => Deed::Keep,
+        }
+    }
+}
+
+/// The line of a client that does this in its turn.
+fn deed_line(
+    alloc: Global,
+    client: ClientId,
+    deed: Deed,
+    draws: &mut Draws,
+) -> Result<Line, NoMemory>
+    ensures { IfOk result (λ line. deeds.turn_doing client deed draws.old.state ≡ record { line = line; state = draws.new.state }) }
 {
-    if what <= 3 {
-        add_line(alloc, client, draws.draw(100))
-    } else if what <= 5 {
-        let key = draws.draw(20);
-        let value = draws.draw(100);
-        put_line(alloc, client, key, value)
-    } else if what == 6 {
-        get_line(alloc, client, draws.draw(20))
-    } else if what == 7 {
-        fresh_line(alloc, client)
-    } else if what == 8 {
-        Ok(Line::Settle(node(1)))
-    } else {
-        Ok(Line::Do(Step::Keep { client }))
+    match deed {
+        Deed::Add => add_line(alloc, client, draws.draw(100)),
+        Deed::Put => {
+            let key = draws.draw(20);
+            let value = draws.draw(100);
+            put_line(alloc, client, key, value)
+        }
+        Deed::Get => get_line(alloc, client, draws.draw(20)),
+        Deed::Fresh => fresh_line(alloc, client),
+        Deed::Settle => Ok(Line::Settle(node(1))),
+        Deed::Keep => Ok(Line::Do(Step::Keep { client })),
     }
 }
 
 /// The line of a turn: it draws its client, what it does, and the numbers that it needs.
+#[tactic(auto, using(crate::proofs::Deeds::turn_for_number))]
 pub fn turn(alloc: Global, draws: &mut Draws) -> Result<Line, NoMemory>
     ensures { IfOk result (λ line. generators.drawn_turn draws.old.state ≡ record { line = line; state = draws.new.state }) }
 {
     let client = client(1 + draws.draw(4) as u8);
-    let what = draws.draw(10);
-    turn_of(alloc, client, what, draws)
+    let deed = Deed::of(draws.draw(10));
+    deed_line(alloc, client, deed, draws)
 }
