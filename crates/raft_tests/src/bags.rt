@@ -35,9 +35,25 @@ fn oldest_packet_is_gone(rt: HostRuntime) -> Result<(), Fail> {
     assert!(rt; matches!(bag.mark(1), Err(TakeRefused::Gone)));
     assert!(rt; matches!(bag.take(16_386, &up), Err(TakeRefused::NeverSent)));
     assert_eq!(rt; bag.next_up(&up), Some(2));
-    assert!(rt; matches!(bag.look(2, &up), Ok(Packet { payload: Payload::Vote { term: 2, .. }, .. })));
+    assert!(rt;
+        matches!(
+            bag.look(2, &up),
+            Ok(Packet {
+                payload: Payload::Vote { term: 2, .. },
+                ..
+            })
+        )
+    );
     assert_eq!(rt; bag.next_up(&up), Some(2));
-    assert!(rt; matches!(bag.take(2, &up), Ok(Packet { payload: Payload::Vote { term: 2, .. }, .. })));
+    assert!(rt;
+        matches!(
+            bag.take(2, &up),
+            Ok(Packet {
+                payload: Payload::Vote { term: 2, .. },
+                ..
+            })
+        )
+    );
     assert_eq!(rt; bag.next_up(&up), Some(3));
     assert_eq!(rt; bag.pending()?.0, 16_383);
     Ok(())

@@ -76,7 +76,10 @@ fn waiting(alloc: Global, world: &RaftWorld, from: u8, to: u8) -> Result<Vec<u64
     let (_, items) = world.pending()?;
     'items: for item in items.iter() {
         if let Item::Pending {
-            number, from, to, ..
+            number,
+            from,
+            to,
+            ..
         } = item
             && (*from, *to) == ends
         {
@@ -193,7 +196,12 @@ fn shown(alloc: Global, world: &RaftWorld) -> Result<String, Fail> {
 }
 
 /// Goes through a schedule, and compares what is led and committed after each row.
-pub fn walk(rt: &impl Abort, alloc: Global, nodes: u8, rows: &[(Do, &'static str)]) -> Result<(), Fail>
+pub fn walk(
+    rt: &impl Abort,
+    alloc: Global,
+    nodes: u8,
+    rows: &[(Do, &'static str)],
+) -> Result<(), Fail>
     requires some { 1 ≤ nodes }
     requires within { nodes ≤ 9 }
 {

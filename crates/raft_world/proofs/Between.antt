@@ -28,8 +28,8 @@ use Rattle.law_agreement.proofs.Members.{changing, place_within, some_same, none
 use Rattle.law_agreement.proofs.Agreement.{committed_grows}
 use Rattle.law_origin.proofs.Each.{each_append, each_drop, each_at, each_change}
 use Rattle.raft_world.specs.Askable.{IsAskable}
-use Rattle.raft_world.specs.Between.{IsBetween, IsPassed, IsNamed, IsJoined, Grows, IsSound}
-use Rattle.raft_world.specs.Reached.{IsReached}
+use Rattle.raft_world.specs.Between.{IsBetween, IsPassed, IsNamed, IsJoined, GrowsAtEnd, IsRunnable}
+use Rattle.raft_world.specs.Reached.{IsRunOf}
 use Rattle.raft_world.proofs.Senders.{IsFrom, Stays, MayCome, did_stays}
 
 abbrev Goes : ℕ → Packet → Type 0
@@ -194,12 +194,12 @@ append_none [] = refl
 append_none (x ∷ xs) = ap (λ ys. x ∷ ys) (append_none xs)
 
 -- what is committed grows by each step
-grows_by : (n : ℕ) (rs : List RaftStep) (r : RaftStep) → Grows (clusters.committed_after n rs) (clusters.happened (clusters.all_happened (clusters.new_cluster n) rs) r).committed
+grows_by : (n : ℕ) (rs : List RaftStep) (r : RaftStep) → GrowsAtEnd (clusters.committed_after n rs) (clusters.happened (clusters.all_happened (clusters.new_cluster n) rs) r).committed
 grows_by n rs r =
     let g = committed_grows n rs (r ∷ []) in
     (g.0, sym (ap (λ c. c.committed) (all_happened-append (clusters.new_cluster n) rs (r ∷ []))) ∙ g.1)
 
-grows_with : (n : ℕ) (rs : List RaftStep) (i : NodeInput) → let c = clusters.all_happened (clusters.new_cluster n) rs in Grows c.committed (clusters.made_intake c (clusters.intake c i)).committed
+grows_with : (n : ℕ) (rs : List RaftStep) (i : NodeInput) → let c = clusters.all_happened (clusters.new_cluster n) rs in GrowsAtEnd c.committed (clusters.made_intake c (clusters.intake c i)).committed
 grows_with n rs (input.Elect k clock) = grows_by n rs (step.Made (input.Elect k clock))
 grows_with n rs (input.Beat k) = grows_by n rs (step.Made (input.Beat k))
 grows_with n rs (input.Append k clock bodies) = grows_by n rs (step.Made (input.Append k clock bodies))
@@ -208,12 +208,21 @@ grows_with n rs (input.Deliver number clock) = grows_by n rs (step.Made (input.D
 grows_with n rs (input.Crash k) = ([], append_none (clusters.committed_after n rs))
 grows_with n rs (input.Start k) = ([], append_none (clusters.committed_after n rs))
 
-pub reached_sound : (n : ℕ) (c : clusters.Cluster) → IsReached n c → IsSound n c
-reached_sound n c r = subst (IsSound n) r.leads_here (record { joined = all_keep n (clusters.new_cluster n) r.steps (new_joined n); grows = grows_with n r.steps })
+pub reached_sound : (n : ℕ) (c : clusters.Cluster) → IsRunOf n c → IsRunnable n c
+reached_sound n c r = subst (IsRunnable n) r.leads_here (record { joined = all_keep n (clusters.new_cluster n) r.steps (new_joined n); grows = grows_with n r.steps })
 
 -- and another step leads on
-pub reached_more : (n : ℕ) (c : clusters.Cluster) (s : RaftStep) → IsReached n c → IsReached n (clusters.happened c s)
+pub reached_more : (n : ℕ) (c : clusters.Cluster) (s : RaftStep) → IsRunOf n c → IsRunOf n (clusters.happened c s)
 reached_more n c s r = record {
   steps = r.steps ++ s ∷ [];
   leads_here = all_happened-append (clusters.new_cluster n) r.steps (s ∷ []) ∙ ap (λ d. clusters.happened d s) r.leads_here;
 }
+
+pub run_after : (n : ℕ) (c d : clusters.Cluster) (s : RaftStep) → IsRunOf n c → d ≡ clusters.happened c s → IsRunOf n d
+run_after n c d s r e = subst (IsRunOf n) (sym e) (reached_more n c s r)
+
+-- by which what is committed grows
+pub run_grows : (n : ℕ) (c d : clusters.Cluster) (s : RaftStep) → IsRunOf n c → d ≡ clusters.happened c s → GrowsAtEnd c.committed d.committed
+run_grows n c d s r e =
+    let g : GrowsAtEnd c.committed (clusters.happened c s).committed = subst (λ (x : clusters.Cluster). GrowsAtEnd x.committed (clusters.happened x s).committed) r.leads_here (grows_by n r.steps s) in
+    subst (λ (x : clusters.Cluster). GrowsAtEnd c.committed x.committed) (sym e) g

@@ -5,3 +5,4 @@ pub mod Taking
 pub mod Making
 pub mod Agreeing
 pub mod Saved
+pub mod Gaining

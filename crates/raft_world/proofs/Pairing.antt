@@ -1,13 +1,15 @@
 -- The members of a cluster, kept as two lists, after one of them changed.
-use Rattle.std.proofs.Common.{◌≡◌, ℕ, zero, suc, ◌+◌, ◌≤◌, ◌<◌, List, [], ◌∷◌, ◌++◌, length, map, refl, ap, sym, ◌∙◌, arith}
+use Rattle.std.proofs.Common.{◌≡◌, ℕ, zero, suc, ◌+◌, ◌-◌, ◌≤◌, ◌<◌, List, [], ◌∷◌, ◌++◌, length, map, set, refl, ap, sym, ◌∙◌, arith}
 use Rattle.std.specs.Prelude.{Bool, true, false, Option, Some, None, slice_get, if◌then◌else◌}
+use Rattle.std.specs.Option.{option_map}
 use Rattle.ax_types.specs.Places as lists
 use Rattle.spec_raft.specs.Positions as positions
 use Rattle.spec_node.specs.Node as nodes
 use Rattle.spec_cluster.specs.Cluster as clusters
 use Rattle.law_agreement.proofs.Members.{some_same, none_some}
+use Rattle.law_reads.proofs.Takens.{numbers_more}
+use Rattle.raft_world.proofs.Gaining.{map_more}
 use Rattle.raft_world.specs.Paired.{members_of, node_up, restarted_now, fallen, risen}
-
 
 abbrev pub with_node : (nodes.Node → nodes.Node) → clusters.Member → clusters.Member
 with_node f m = record m { node = f m.node }
@@ -83,3 +85,78 @@ pub flags_tell : (us : List Bool) (ns : List nodes.Node) (k : ℕ) → length us
 flags_tell [] ns k e = refl
 flags_tell (u ∷ us) [] k e = absurd (omega (arith, e))
 flags_tell (u ∷ us) (n ∷ ns) k e = flag_case u k (lists.numbers_passing (λ b. b) (suc k) us) (lists.numbers_passing (λ (m : clusters.Member). m.is_up) (suc k) (members_of us ns)) (flags_tell us ns (suc k) (omega (arith, e)))
+
+-- the first nodes of a new cluster, and one more
+abbrev pub new_so_far : ℕ → ℕ → List clusters.Member
+new_so_far count n = map (λ k. record { is_up = true; node = nodes.new_node k count }) (lists.numbers_from 1 n)
+
+pub new_more : (count number : ℕ) → 1 ≤ number → new_so_far count (number - 1) ++ record { is_up = true; node = nodes.new_node number count } ∷ [] ≡ new_so_far count (number + 1 - 1)
+new_more count number one =
+    let here : 1 + (number - 1) ≡ number = omega (arith, one) in
+    let next : suc (number - 1) ≡ number + 1 - 1 = omega (arith, one) in
+    ap (λ k. new_so_far count (number - 1) ++ record { is_up = true; node = nodes.new_node k count } ∷ []) (sym here)
+    ∙ map_more (λ (k : ℕ). let m : clusters.Member = record { is_up = true; node = nodes.new_node k count } in m) [] (lists.numbers_from 1 (number - 1)) (1 + (number - 1))
+    ∙ ap (λ ks. map (λ (k : ℕ). let m : clusters.Member = record { is_up = true; node = nodes.new_node k count } in m) ks) (numbers_more 1 (number - 1))
+    ∙ ap (new_so_far count) next
+
+-- what stands at a place of both lists
+pub node_at : (us : List Bool) (ns : List nodes.Node) (i : ℕ) (n : nodes.Node) → length us ≡ length ns → slice_get ns i ≡ Some n → option_map (λ (m : clusters.Member). m.node) (lists.at_place (members_of us ns) (suc i)) ≡ Some n
+node_at [] [] i n e f = absurd (none_some n f)
+node_at [] (o ∷ ns) i n e f = absurd (omega (arith, e))
+node_at (u ∷ us) [] i n e f = absurd (none_some n f)
+node_at (u ∷ us) (o ∷ ns) zero n e f = f
+node_at (u ∷ us) (o ∷ ns) (suc i) n e f = node_at us ns i n (omega (arith, e)) f
+
+pub up_false : (us : List Bool) (ns : List nodes.Node) (i : ℕ) → slice_get us i ≡ Some false → node_up (lists.at_place (members_of us ns) (suc i)) ≡ None
+up_false [] ns i e = refl
+up_false (u ∷ us) [] i e = refl
+up_false (u ∷ us) (n ∷ ns) zero e = ap (λ b. if b then Some n else None) (some_same u false e)
+up_false (u ∷ us) (n ∷ ns) (suc i) e = up_false us ns i e
+
+pub up_past : (us : List Bool) (ns : List nodes.Node) (i : ℕ) → length us ≤ i → node_up (lists.at_place (members_of us ns) (suc i)) ≡ None
+up_past us ns i h = ap node_up (no_pair us ns i h)
+
+pub up_true : (us : List Bool) (ns : List nodes.Node) (i : ℕ) (n : nodes.Node) → slice_get us i ≡ Some true → slice_get ns i ≡ Some n → node_up (lists.at_place (members_of us ns) (suc i)) ≡ Some n
+up_true us ns i n e f = ap node_up (at_pair us ns i true n e f)
+
+-- what is made of a node
+pub map_node : {X : Type 0} (f : nodes.Node → X) (o : Option clusters.Member) (n : nodes.Node) → option_map (λ (m : clusters.Member). m.node) o ≡ Some n → option_map (λ (m : clusters.Member). f m.node) o ≡ Some (f n)
+map_node f None n e = absurd (none_some n e)
+map_node f (Some m) n e = ap (λ x. Some (f x)) (some_same m.node n e)
+
+-- a member changes, and nothing where there is none
+pub change_past : (f : clusters.Member → clusters.Member) (us : List Bool) (ns : List nodes.Node) (i : ℕ) → length us ≤ i → positions.change_place f (members_of us ns) (suc i) ≡ members_of us ns
+change_past f us ns i h = change_none f (members_of us ns) (suc i) (no_pair us ns i h)
+
+pub fallen_off : (us : List Bool) (ns : List nodes.Node) (i : ℕ) → slice_get us i ≡ Some false → positions.change_place fallen (members_of us ns) (suc i) ≡ members_of us ns
+fallen_off [] ns i e = refl
+fallen_off (u ∷ us) [] i e = refl
+fallen_off (u ∷ us) (n ∷ ns) zero e = ap (λ (m : clusters.Member). m ∷ members_of us ns) (ap (λ b. if b then clusters.fallen_member n (nodes.kept_of n) else record { is_up = u; node = n }) (some_same u false e))
+fallen_off (u ∷ us) (n ∷ ns) (suc i) e = ap (λ ms. record { is_up = u; node = n } ∷ ms) (fallen_off us ns i e)
+
+pub risen_on : (us : List Bool) (ns : List nodes.Node) (i : ℕ) → slice_get us i ≡ Some true → positions.change_place risen (members_of us ns) (suc i) ≡ members_of us ns
+risen_on [] ns i e = refl
+risen_on (u ∷ us) [] i e = refl
+risen_on (u ∷ us) (n ∷ ns) zero e = ap (λ (m : clusters.Member). m ∷ members_of us ns) (ap (λ b. if b then record { is_up = u; node = n } else record { is_up = true; node = restarted_now n }) (some_same u true e))
+risen_on (u ∷ us) (n ∷ ns) (suc i) e = ap (λ ms. record { is_up = u; node = n } ∷ ms) (risen_on us ns i e)
+
+pub set_both : (f : nodes.Node → nodes.Node) (b : Bool) (us : List Bool) (ns : List nodes.Node) (i : ℕ) → members_of (set us i b) (positions.change_place f ns (suc i)) ≡ positions.change_place (with_both b f) (members_of us ns) (suc i)
+set_both f b [] ns i = refl
+set_both f b (u ∷ us) [] zero = refl
+set_both f b (u ∷ us) [] (suc i) = refl
+set_both f b (u ∷ us) (n ∷ ns) zero = refl
+set_both f b (u ∷ us) (n ∷ ns) (suc i) = ap (λ ms. record { is_up = u; node = n } ∷ ms) (set_both f b us ns i)
+
+pub crash_pair : (us : List Bool) (ns : List nodes.Node) (i : ℕ) → slice_get us i ≡ Some true → members_of (set us i false) (positions.change_place restarted_now ns (suc i)) ≡ positions.change_place fallen (members_of us ns) (suc i)
+crash_pair [] ns i e = refl
+crash_pair (u ∷ us) [] zero e = refl
+crash_pair (u ∷ us) [] (suc i) e = refl
+crash_pair (u ∷ us) (n ∷ ns) zero e = ap (λ (m : clusters.Member). m ∷ members_of us ns) (ap (λ b. if b then clusters.fallen_member n (nodes.kept_of n) else record { is_up = u; node = n }) (sym (some_same u true e)))
+crash_pair (u ∷ us) (n ∷ ns) (suc i) e = ap (λ ms. record { is_up = u; node = n } ∷ ms) (crash_pair us ns i e)
+
+pub start_pair : (us : List Bool) (ns : List nodes.Node) (i : ℕ) → slice_get us i ≡ Some false → members_of (set us i true) (positions.change_place restarted_now ns (suc i)) ≡ positions.change_place risen (members_of us ns) (suc i)
+start_pair [] ns i e = refl
+start_pair (u ∷ us) [] zero e = refl
+start_pair (u ∷ us) [] (suc i) e = refl
+start_pair (u ∷ us) (n ∷ ns) zero e = ap (λ (m : clusters.Member). m ∷ members_of us ns) (ap (λ b. if b then record { is_up = u; node = n } else record { is_up = true; node = restarted_now n }) (sym (some_same u false e)))
+start_pair (u ∷ us) (n ∷ ns) (suc i) e = ap (λ ms. record { is_up = u; node = n } ∷ ms) (start_pair us ns i e)

@@ -15,8 +15,7 @@ use Rattle.spec_cluster.specs.Bag as bags
 use Rattle.spec_cluster.specs.Cluster as clusters
 use Rattle.law_agreement.proofs.Members.{some_same, none_some}
 use Rattle.raft_world.specs.Paired.{node_up}
-use Rattle.raft_world.specs.Taking.{input_of, marked, IsFree, IsTaken, Takes}
-use Rattle.raft_world.specs.declared.intakes.Asked.{Asked}
+use Rattle.raft_world.specs.Taking.{marked, IsFree, IsIntake, TakesAs}
 use Rattle.raft_world.specs.declared.intakes.Intake.{Intake}
 
 -- a node that is not there, not up or does not pass takes nothing
@@ -57,13 +56,13 @@ passes c k i test n e f =
     ap (λ o. clusters.intake_at c k i o test) (up_at (lists.at_place c.members k) n e).there
     ∙ ap (λ q. if q then Some (let d : clusters.Intake = record { cluster = c; number = k; node = n; input = i } in d) else None) f
 
-pub is_taken : (c : clusters.Cluster) (k : ℕ) (a : Asked) (test : nodes.Node → Bool) (n : nodes.Node) → node_up (lists.at_place c.members k) ≡ Some n → test n ≡ true → IsTaken c (clusters.intake_for c k (input_of a) test) (record { node = k; packet = None; asked = a })
-is_taken c k a test n e f = record {
+pub is_taken : (c : clusters.Cluster) (k : ℕ) (i : RaftInput) (test : nodes.Node → Bool) (n : nodes.Node) → node_up (lists.at_place c.members k) ≡ Some n → test n ≡ true → IsIntake c (clusters.intake_for c k i test) (record { node = k; packet = None; input = i })
+is_taken c k i test n e f = record {
   member = record { is_up = true; node = n };
   there = (up_at (lists.at_place c.members k) n e).there;
   up = refl;
   free = tt;
-  same = passes c k (input_of a) test n e f;
+  same = passes c k i test n e f;
 }
 
 -- a delivery
@@ -94,3 +93,27 @@ first_free (Some r) s e = absurd (none_some r (sym e))
 
 pub may_mark : (bag : bags.Bag) (up : Rattle.std.specs.Prelude.List ℕ) (number : ℕ) → bags.take_refusal bag up number ≡ None → bags.mark_refusal bag number ≡ None
 may_mark bag up number e = first_free (bags.mark_refusal bag number) (bags.kept_hindrance bag up (bags.kept_at bag number)) e
+
+-- a packet that nothing hinders is taken by its receiver
+pub is_delivered : (c : clusters.Cluster) (number clock j k : ℕ) (p : Packet) (n : nodes.Node) → bags.take_refusal c.bag (clusters.up_members c) number ≡ None → option_map (λ (s : bags.KeptPacket). s.packet) (bags.kept_at c.bag number) ≡ Some p
+    → p.«from» ≡ end.Node j → p.to ≡ end.Node k → node_up (lists.at_place c.members k) ≡ Some n
+    → IsIntake c (clusters.intake c (input.Deliver number clock)) (record { node = k; packet = Some number; input = asked.Message j clock p.payload })
+is_delivered c number clock j k p n free kept ef et up = record {
+  member = record { is_up = true; node = n };
+  there = (up_at (lists.at_place c.members k) n up).there;
+  up = refl;
+  free = may_mark c.bag (clusters.up_members c) number free;
+  same = delivered c number clock p (end.Node j) (end.Node k) free kept ef et ∙ passes (record c { bag = bags.with_mark c.bag number }) k (asked.Message j clock p.payload) (λ x. true) n up refl;
+}
+
+pub is_not_received : (c : clusters.Cluster) (number clock j k : ℕ) (p : Packet) → bags.take_refusal c.bag (clusters.up_members c) number ≡ None → option_map (λ (s : bags.KeptPacket). s.packet) (bags.kept_at c.bag number) ≡ Some p
+    → p.«from» ≡ end.Node j → p.to ≡ end.Node k → node_up (lists.at_place c.members k) ≡ None → clusters.intake c (input.Deliver number clock) ≡ None
+is_not_received c number clock j k p free kept ef et up = delivered c number clock p (end.Node j) (end.Node k) free kept ef et ∙ is_down (record c { bag = bags.with_mark c.bag number }) k (asked.Message j clock p.payload) (λ x. true) up
+
+pub from_client : (c : clusters.Cluster) (number clock d : ℕ) (p : Packet) → bags.take_refusal c.bag (clusters.up_members c) number ≡ None → option_map (λ (s : bags.KeptPacket). s.packet) (bags.kept_at c.bag number) ≡ Some p
+    → p.«from» ≡ end.Client d → clusters.intake c (input.Deliver number clock) ≡ None
+from_client c number clock d p free kept ef = delivered c number clock p (end.Client d) p.to free kept ef refl
+
+pub to_client : (c : clusters.Cluster) (number clock j d : ℕ) (p : Packet) → bags.take_refusal c.bag (clusters.up_members c) number ≡ None → option_map (λ (s : bags.KeptPacket). s.packet) (bags.kept_at c.bag number) ≡ Some p
+    → p.«from» ≡ end.Node j → p.to ≡ end.Client d → clusters.intake c (input.Deliver number clock) ≡ None
+to_client c number clock j d p free kept ef et = delivered c number clock p (end.Node j) (end.Client d) free kept ef et

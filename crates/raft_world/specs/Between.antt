@@ -29,10 +29,10 @@ pub record IsJoined (nodes : ℕ) (c : clusters.Cluster) : Type 0 where
   pub packets : AllByRecursion (IsPassed nodes) c.bag.kept
 
 -- entries are others, and then more of them
-abbrev pub Grows : List Entry → List Entry → Type 0
-Grows old new = (rest : List Entry) × (new ≡ old ++ rest)
+abbrev pub GrowsAtEnd : List Entry → List Entry → Type 0
+GrowsAtEnd old new = (rest : List Entry) × (new ≡ old ++ rest)
 
 -- and each input that is taken only adds to what is committed
-pub record IsSound (nodes : ℕ) (c : clusters.Cluster) : Type 0 where
+pub record IsRunnable (nodes : ℕ) (c : clusters.Cluster) : Type 0 where
   pub joined : IsJoined nodes c
-  pub grows : (i : NodeInput) → Grows c.committed (clusters.made_intake c (clusters.intake c i)).committed
+  pub grows : (i : NodeInput) → GrowsAtEnd c.committed (clusters.made_intake c (clusters.intake c i)).committed

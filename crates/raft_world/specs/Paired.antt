@@ -25,6 +25,6 @@ abbrev pub risen : clusters.Member → clusters.Member
 risen m = if m.is_up then m else record { is_up = true; node = restarted_now m.node }
 
 -- the term that a member leads, where it is there, up and a leader
-abbrev pub led_term : Option clusters.Member → Option ℕ
-led_term None = None
-led_term (Some m) = if m.is_up && nodes.is_leader m.node then Some m.node.ballot.term else None
+abbrev pub term_led : Option clusters.Member → Option ℕ
+term_led None = None
+term_led (Some m) = if m.is_up && nodes.is_leader m.node then Some m.node.ballot.term else None

@@ -4,7 +4,7 @@ use Rattle.ax_types.specs.declared.raft.RaftStep.{RaftStep}
 use Rattle.spec_cluster.specs.Cluster as clusters
 use Rattle.law_origin.specs.Origin as origins
 
-pub record IsReached (nodes : ℕ) (c : clusters.Cluster) : Type 0 where
+pub record IsRunOf (nodes : ℕ) (c : clusters.Cluster) : Type 0 where
   pub steps : List RaftStep
   pub leads_here : clusters.all_happened (clusters.new_cluster nodes) steps ≡ c
 

@@ -1,21 +1,9 @@
 -- An input that a node takes, as the definitions have it.
 use Rattle.std.specs.Prelude.{◌≡◌, ℕ, true, Option, Some, None}
 use Rattle.ax_types.specs.Places as lists
-use Rattle.ax_types.specs.declared.raft.RaftInput.{RaftInput}
-use Rattle.ax_types.specs.declared.raft.RaftInput.TheVariants as input
 use Rattle.spec_cluster.specs.Bag as bags
 use Rattle.spec_cluster.specs.Cluster as clusters
-use Rattle.raft_world.specs.declared.intakes.Asked.{Asked}
-use Rattle.raft_world.specs.declared.intakes.Asked.TheVariants as asked
 use Rattle.raft_world.specs.declared.intakes.Intake.{Intake}
-
--- what is asked of a node
-abbrev pub input_of : Asked → RaftInput
-input_of (asked.Elect clock) = input.Elect clock
-input_of asked.Beat = input.Beat
-input_of (asked.Append clock bodies) = input.Append clock bodies.now
-input_of asked.Read = input.Read
-input_of (asked.Message from clock p) = input.Message from clock p.now
 
 -- the packets where the one that is taken was marked, and whether it may be
 abbrev pub marked : bags.Bag → Option ℕ → bags.Bag
@@ -27,13 +15,13 @@ IsFree bag None = Unit {0}
 IsFree bag (Some number) = bags.mark_refusal bag number ≡ None
 
 -- a node takes an input
-pub record IsTaken (c : clusters.Cluster) (o : Option clusters.Intake) (t : Intake) : Type 0 where
+pub record IsIntake (c : clusters.Cluster) (o : Option clusters.Intake) (t : Intake) : Type 0 where
   pub member : clusters.Member
   pub there : lists.at_place c.members t.node ≡ Some member
   pub up : member.is_up ≡ true
   pub free : IsFree c.bag t.packet
-  pub same : o ≡ Some (record { cluster = record c { bag = marked c.bag t.packet }; number = t.node; node = member.node; input = input_of t.asked })
+  pub same : o ≡ Some (record { cluster = record c { bag = marked c.bag t.packet }; number = t.node; node = member.node; input = t.input })
 
-abbrev pub Takes : clusters.Cluster → Option clusters.Intake → Option Intake → Type 0
-Takes c o None = o ≡ None
-Takes c o (Some t) = IsTaken c o t
+abbrev pub TakesAs : clusters.Cluster → Option clusters.Intake → Option Intake → Type 0
+TakesAs c o None = o ≡ None
+TakesAs c o (Some t) = IsIntake c o t

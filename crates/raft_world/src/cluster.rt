@@ -58,7 +58,7 @@ impl Cluster {
 
     /// One step.
     pub(crate) fn step(&mut self, step: &RaftStep) -> Result<(), NoMemory>
-        requires { (n : ℕ) × between.IsSound n self.old }
+        requires { (n : ℕ) × between.IsRunnable n self.old }
         ensures { OnOk result (self.new ≡ clusters.happened self.old step.now) }
     {
         match step {
@@ -73,7 +73,7 @@ impl Cluster {
 
     /// A step that is made.
     fn make(&mut self, input: &NodeInput) -> Result<(), NoMemory>
-        requires { (n : ℕ) × between.IsSound n self.old }
+        requires { (n : ℕ) × between.IsRunnable n self.old }
         ensures { OnOk result (self.new ≡ clusters.made self.old input.now) }
     {
         match input {
@@ -105,16 +105,16 @@ impl Cluster {
 
     /// A step of the node that takes an input.
     fn make_intake(&mut self, input: &NodeInput) -> Result<(), NoMemory>
-        requires { (n : ℕ) × between.IsSound n self.old }
+        requires { (n : ℕ) × between.IsRunnable n self.old }
         ensures { OnOk result (self.new ≡ clusters.made_intake self.old (clusters.intake self.old input.now)) }
     {
-        let Some(taken) = take_in(&self.members, &self.bag, input) else {
+        let Some(taken) = take_in(&self.members, &self.bag, input)? else {
             return Ok(());
         };
         let node = taken.node;
         let packet = taken.packet;
         let before = self.read_point(node);
-        let out = self.members.step(node, &taken.asked)?;
+        let out = self.members.step(node, taken.input)?;
         mark_taken(&mut self.bag, packet);
         self.gain(node, before, out)
     }
@@ -122,16 +122,16 @@ impl Cluster {
     /// A step in which the node's store failed after so many of its saves, with so many entries of a failed add left. The node
     /// makes it on a copy, so that it is as before where the store cannot fail so.
     fn halt(&mut self, input: &NodeInput, saved: u64, added: u64) -> Result<(), NoMemory>
-        requires { (n : ℕ) × between.IsSound n self.old }
+        requires { (n : ℕ) × between.IsRunnable n self.old }
         ensures { OnOk result (self.new ≡ clusters.halted_intake self.old (clusters.intake self.old input.now) saved added) }
     {
-        let Some(taken) = take_in(&self.members, &self.bag, input) else {
+        let Some(taken) = take_in(&self.members, &self.bag, input)? else {
             return Ok(());
         };
         let node = taken.node;
         let packet = taken.packet;
         let mut stepping = self.members.node(node).copy()?;
-        let out = step_node(&mut stepping, &taken.asked)?;
+        let out = step_node(&mut stepping, taken.input)?;
         if !may_fail(&out.saves, saved, added) {
             return Ok(());
         }
@@ -155,7 +155,7 @@ impl Cluster {
     /// What a step of a node brings to the cluster, in which the node is after it already.
     fn gain(&mut self, node: NodeId, before: ReadPoint, out: Out) -> Result<(), NoMemory>
         requires member { node ≤ length self.old.members }
-        requires grows { (m : clusters.Member) → lists.at_place self.old.members node ≡ Some m → between.Grows self.old.committed (clusters.entries_so_far self.old.committed m.node) }
+        requires grows { (m : clusters.Member) → lists.at_place self.old.members node ≡ Some m → between.GrowsAtEnd self.old.committed (clusters.entries_so_far self.old.committed m.node) }
         ensures { OnOk result ((m : clusters.Member) → lists.at_place self.old.members node ≡ Some m → self.new ≡ gaining.gained self.old node before m.node out) }
     {
         let after = self.members.node(node);

@@ -15,9 +15,9 @@ pub(crate) fn send_all(bag: &mut Bag, packets: List<Packet>) -> Result<(), NoMem
     ensures { OnOk result (bag.new ≡ bags.with_packets bag.old packets) }
 {
     'packets: for packet in packets.into_vec() {
-        if bag.send(packet).is_err() {
+        let Ok(_) = bag.send(packet) else {
             return Err(NoMemory);
-        }
+        };
     }
     Ok(())
 }
@@ -33,11 +33,8 @@ pub(crate) fn mark_taken(bag: &mut Bag, packet: Option<u64>)
 }
 
 /// What a node knows to be committed is committed.
-pub(crate) fn commit_entries(
-    committed: &mut List<Entry>,
-    node: &RaftNode,
-) -> Result<(), NoMemory>
-    requires { between.Grows committed.old (clusters.entries_so_far committed.old node.now) }
+pub(crate) fn commit_entries(committed: &mut List<Entry>, node: &RaftNode) -> Result<(), NoMemory>
+    requires { between.GrowsAtEnd committed.old (clusters.entries_so_far committed.old node.now) }
     ensures { OnOk result (committed.new ≡ clusters.entries_so_far committed.old node.now) }
 {
     'places: while (committed.len() as u64) < node.commit() {

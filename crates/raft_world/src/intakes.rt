@@ -1,4 +1,4 @@
-ghost use Rattle.std.specs.Prelude.{◌≡◌, ◌-◌, ◌<◌, ◌^◌, not, false, IfOk, OnOk};
+ghost use Rattle.std.specs.Prelude.{◌≡◌, not, false, IfOk, OnOk};
 ghost use Rattle.ax_types.specs.declared.raft.RaftInput.TheVariants as given;
 ghost use Rattle.ax_types.specs.declared.raft.NodeInput.TheVariants as node_inputs;
 ghost use Rattle.spec_node.specs.Node as raft_nodes;
@@ -8,65 +8,48 @@ ghost use Rattle.raft_world.specs.Askable as askable;
 ghost use Rattle.raft_world.specs.Taking as taking;
 
 use crate::members::Members;
-use ax_types::{Body, Duplicate, End, List, NoMemory, NodeId, NodeInput, Out, Payload};
+use ax_types::{Duplicate, End, NoMemory, NodeId, NodeInput, Out, RaftInput};
 use net_bag::Bag;
 use raft_node::RaftNode;
 
-/// What is asked of a node, where the bodies or the packet stay with who has them.
+/// An input that a node takes: the node, the packet that is marked, and what the node is asked.
 #[derive(Drop)]
-pub(crate) enum Asked<'a> {
-    Elect {
-        clock: u64,
-    },
-    Beat,
-    Append {
-        clock: u64,
-        bodies: &'a List<Body>,
-    },
-    Read,
-    Message {
-        from: NodeId,
-        clock: u64,
-        payload: &'a Payload,
-    },
-}
-
-/// An input that a node takes: the node, the packet that is marked, and what is asked of the node.
-#[derive(Drop)]
-pub(crate) struct Intake<'a> {
+pub(crate) struct Intake {
     pub(crate) node: NodeId,
     pub(crate) packet: Option<u64>,
-    pub(crate) asked: Asked<'a>,
+    pub(crate) input: RaftInput,
 }
 
 /// Which node takes an input, none where it is to be skipped.
-pub(crate) fn take_in<'a>(
+pub(crate) fn take_in(
     members: &Members,
-    bag: &'a Bag,
-    input: &'a NodeInput,
-) -> Option<Intake<'a>>
-    ensures { (c : clusters.Cluster) → c.members ≡ members.now → c.bag ≡ bag.now → taking.Takes c (clusters.intake c input.now) result }
+    bag: &Bag,
+    input: &NodeInput,
+) -> Result<Option<Intake>, NoMemory>
+    ensures { IfOk result (λ taken. (c : clusters.Cluster) → c.members ≡ members.now → c.bag ≡ bag.now → taking.TakesAs c (clusters.intake c input.now) taken) }
 {
     match input {
-        NodeInput::Elect { node, clock } => at_follower(members, *node, *clock),
-        NodeInput::Beat { node } => at_leader(members, *node, Asked::Beat),
+        NodeInput::Elect { node, clock } => Ok(at_follower(members, *node, *clock)),
+        NodeInput::Beat { node } => Ok(at_leader(members, *node, RaftInput::Beat)),
         NodeInput::Append {
             node,
             clock,
             bodies,
         } => {
             let clock = *clock;
-            at_leader(members, *node, Asked::Append { clock, bodies })
+            let bodies = bodies.copy()?;
+            Ok(at_leader(members, *node, RaftInput::Append { clock, bodies }))
         }
-        NodeInput::Read { node } => at_leader(members, *node, Asked::Read),
+        NodeInput::Read { node } => Ok(at_leader(members, *node, RaftInput::Read)),
         NodeInput::Deliver { number, clock } => at_receiver(members, bag, *number, *clock),
-        NodeInput::Crash { .. } | NodeInput::Start { .. } => None,
+        NodeInput::Crash { .. } => Ok(None),
+        NodeInput::Start { .. } => Ok(None),
     }
 }
 
 /// A candidacy, at a node that is up and does not lead.
-fn at_follower<'a>(members: &Members, node: NodeId, clock: u64) -> Option<Intake<'a>>
-    ensures { (c : clusters.Cluster) → c.members ≡ members.now → taking.Takes c (clusters.intake_for c node (given.Elect clock) (λ n. not (raft_nodes.is_leader n))) result }
+fn at_follower(members: &Members, node: NodeId, clock: u64) -> Option<Intake>
+    ensures { (c : clusters.Cluster) → c.members ≡ members.now → taking.TakesAs c (clusters.intake_for c node (given.Elect clock) (λ n. not (raft_nodes.is_leader n))) result }
 {
     let Some(follower) = members.up_node(node) else {
         return None;
@@ -77,13 +60,13 @@ fn at_follower<'a>(members: &Members, node: NodeId, clock: u64) -> Option<Intake
     Some(Intake {
         node,
         packet: None,
-        asked: Asked::Elect { clock },
+        input: RaftInput::Elect { clock },
     })
 }
 
 /// What only a leader is asked, at a node that is up and leads.
-fn at_leader<'a>(members: &Members, node: NodeId, asked: Asked<'a>) -> Option<Intake<'a>>
-    ensures { (c : clusters.Cluster) → c.members ≡ members.now → taking.Takes c (clusters.intake_for c node (taking.input_of asked) raft_nodes.is_leader) result }
+fn at_leader(members: &Members, node: NodeId, input: RaftInput) -> Option<Intake>
+    ensures { (c : clusters.Cluster) → c.members ≡ members.now → taking.TakesAs c (clusters.intake_for c node input raft_nodes.is_leader) result }
 {
     let Some(leader) = members.up_node(node) else {
         return None;
@@ -94,59 +77,59 @@ fn at_leader<'a>(members: &Members, node: NodeId, asked: Asked<'a>) -> Option<In
     Some(Intake {
         node,
         packet: None,
-        asked,
+        input,
     })
 }
 
 /// The packet with a number, at its receiver, where nothing hinders it.
-fn at_receiver<'a>(
+fn at_receiver(
     members: &Members,
-    bag: &'a Bag,
+    bag: &Bag,
     number: u64,
     clock: u64,
-) -> Option<Intake<'a>>
-    ensures { (c : clusters.Cluster) → c.members ≡ members.now → c.bag ≡ bag.now → taking.Takes c (clusters.intake c (node_inputs.Deliver number clock)) result }
+) -> Result<Option<Intake>, NoMemory>
+    ensures { IfOk result (λ taken. (c : clusters.Cluster) → c.members ≡ members.now → c.bag ≡ bag.now → taking.TakesAs c (clusters.intake c (node_inputs.Deliver number clock)) taken) }
 {
     let Ok(packet) = bag.look(number, members.up()) else {
-        return None;
+        return Ok(None);
     };
     let End::Node(from) = packet.from else {
-        return None;
+        return Ok(None);
     };
     let End::Node(to) = packet.to else {
-        return None;
+        return Ok(None);
     };
     let Some(_) = members.up_node(to) else {
-        return None;
+        return Ok(None);
     };
-    let payload = &packet.payload;
-    Some(Intake {
+    let payload = packet.payload.copy()?;
+    Ok(Some(Intake {
         node: to,
         packet: Some(number),
-        asked: Asked::Message {
+        input: RaftInput::Message {
             from,
             clock,
             payload,
         },
-    })
+    }))
 }
 
-/// One step of a node for what is asked of it. No term follows the greatest number, which is answered as want of memory.
-pub(crate) fn step_node(node: &mut RaftNode, asked: &Asked) -> Result<Out, NoMemory>
-    requires { askable.IsAskable node.old (taking.input_of asked.now) }
-    ensures out { IfOk result (λ out. out ≡ node_steps.out node.old (taking.input_of asked.now)) }
-    ensures after { OnOk result (node.new ≡ node_steps.stepped node.old (taking.input_of asked.now)) }
+/// One step of a node for what it is asked. No term follows the greatest number, which is answered as want of memory.
+pub(crate) fn step_node(node: &mut RaftNode, input: RaftInput) -> Result<Out, NoMemory>
+    requires { askable.IsAskable node.old input }
+    ensures out { IfOk result (λ out. out ≡ node_steps.out node.old input) }
+    ensures after { OnOk result (node.new ≡ node_steps.stepped node.old input) }
 {
-    match asked {
-        Asked::Elect { clock } => elect(node, *clock),
-        Asked::Beat => node.beat(),
-        Asked::Append { clock, bodies } => node.append(*clock, bodies.copy()?),
-        Asked::Read => node.read(),
-        Asked::Message {
+    match input {
+        RaftInput::Elect { clock } => elect(node, clock),
+        RaftInput::Beat => node.beat(),
+        RaftInput::Append { clock, bodies } => node.append(clock, bodies),
+        RaftInput::Read => node.read(),
+        RaftInput::Message {
             from,
             clock,
             payload,
-        } => node.hear(*from, *clock, payload),
+        } => node.hear(from, clock, &payload),
     }
 }
 

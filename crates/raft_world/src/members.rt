@@ -10,11 +10,10 @@ ghost use Rattle.spec_cluster.specs.Cluster as clusters;
 ghost use Rattle.net_bag.specs.Reasons as reasons;
 ghost use Rattle.raft_world.specs.Paired as paired;
 ghost use Rattle.raft_world.specs.Askable as askable;
-ghost use Rattle.raft_world.specs.Taking as taking;
 
-use crate::intakes::{Asked, step_node};
+use crate::intakes::step_node;
 use crate::saves::kept_after;
-use ax_types::{NoMemory, NodeId, Out, Saves};
+use ax_types::{NoMemory, NodeId, Out, RaftInput, Saves};
 use raft_node::RaftNode;
 use std::alloc::Global;
 use std::marker::Model;
@@ -99,14 +98,14 @@ impl Members {
         &self.nodes[index_of(node)]
     }
 
-    /// One step of a node that is up, for what is asked of it.
-    pub(crate) fn step(&mut self, node: NodeId, asked: &Asked) -> Result<Out, NoMemory>
-        requires { askable.IsAskableAt (lists.at_place self.old node) (taking.input_of asked.now) }
-        ensures out { IfOk result (λ out. option_map (λ m. node_steps.out m.node (taking.input_of asked.now)) (lists.at_place self.old node) ≡ Some out) }
-        ensures after { OnOk result (self.new ≡ positions.change_place (λ m. record m { node = node_steps.stepped m.node (taking.input_of asked.now) }) self.old node) }
+    /// One step of a node that is up, for what it is asked.
+    pub(crate) fn step(&mut self, node: NodeId, input: RaftInput) -> Result<Out, NoMemory>
+        requires { askable.IsAskableAt (lists.at_place self.old node) input }
+        ensures out { IfOk result (λ out. option_map (λ m. node_steps.out m.node input) (lists.at_place self.old node) ≡ Some out) }
+        ensures after { OnOk result (self.new ≡ positions.change_place (λ m. record m { node = node_steps.stepped m.node input }) self.old node) }
     {
         let stepping = &mut self.nodes[index_of(node)];
-        step_node(stepping, asked)
+        step_node(stepping, input)
     }
 
     /// A node that is up goes down: what is not kept is lost. Another one stays as it is.

@@ -72,15 +72,16 @@ pub(crate) fn kept_after(
 ) -> Result<Loaded, NoMemory>
     ensures { IfOk result (λ left. left ≡ saving.kept_after kept (saving.calls_of saves) saved added) }
 {
-    let Some((term, vote)) = saves.vote else {
-        return kept_after_cut(kept, saves.cut, saves.add, saved, added);
+    let Saves { vote, cut, add } = saves;
+    let Some((term, vote)) = vote else {
+        return kept_after_cut(kept, cut, add, saved, added);
     };
     if saved == 0 {
         return Ok(kept);
     }
     let log = kept.log;
     let voted = Loaded { term, vote, log };
-    kept_after_cut(voted, saves.cut, saves.add, saved - 1, added)
+    kept_after_cut(voted, cut, add, saved - 1, added)
 }
 
 /// The same, of the calls from the cut on.

@@ -32,7 +32,7 @@ impl Model for RaftWorld {
 
     ghost view = { λ a. record { nodes = a.nodes; cluster = a.cluster; is_spent = a.is_spent } };
 
-    ghost invariant = { λ a. (1 ≤ a.nodes) × (a.is_spent ≡ false → reached.IsReached a.nodes a.cluster) };
+    ghost invariant = { λ a. (1 ≤ a.nodes) × (a.is_spent ≡ false → reached.IsRunOf a.nodes a.cluster) };
 }
 
 impl RaftWorld {
@@ -56,8 +56,8 @@ impl RaftWorld {
         requires { self.old.is_spent ≡ false }
         ensures after { OnOk result (self.new ≡ record self.old { cluster = clusters.happened self.old.cluster step.now }) }
         ensures spent { OnErr result (self.new.is_spent ≡ true) }
-        ensures reached { OnOk result (reached.IsReached self.new.nodes self.new.cluster) }
-        ensures grows { OnOk result (between.Grows self.old.cluster.committed self.new.cluster.committed) }
+        ensures reached { OnOk result (reached.IsRunOf self.new.nodes self.new.cluster) }
+        ensures grows { OnOk result (between.GrowsAtEnd self.old.cluster.committed self.new.cluster.committed) }
         ensures one_leads { OnOk result (agreements.OneLeads self.new.nodes self.new.cluster) }
         ensures led_once { OnOk result (agreements.LedOnce self.new.nodes self.new.cluster) }
         ensures logs_match { OnOk result (agreements.LogsMatch self.new.nodes self.new.cluster) }
@@ -86,7 +86,7 @@ impl RaftWorld {
 
     /// The term that a node leads, where it is up and a leader.
     pub fn leads(&self, node: NodeId) -> Option<u64>
-        ensures { result ≡ paired.led_term (lists.at_place self.now.cluster.members node) }
+        ensures { result ≡ paired.term_led (lists.at_place self.now.cluster.members node) }
     {
         let Some(leading) = self.cluster.members.up_node(node) else {
             return None;
