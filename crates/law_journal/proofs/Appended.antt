@@ -40,20 +40,20 @@ IsBytes-behind xs ys h i = omega (arith, get_or-append-add xs ys i 0, h (length 
 
 -- the first record is torn
 torn_now : (before : List journal_records.Record) (r : journal_records.Record) (records : List journal_records.Record) (front : List ℕ) (x : ℕ) (e : List ℕ)
-    → journal_records.FitsRecord (journals.counted before) (length (journals.content before).log) r → journal_records.record_bytes r ≡ front ++ (x ∷ e) → reading.IsBytes (x ∷ e)
+    → journal_records.FitsRecord (journals.has_count before) (length (journals.content before).log) r → journal_records.record_bytes r ≡ front ++ (x ∷ e) → reading.IsBytes (x ∷ e)
     → appends.IsTornAppend before (r ∷ records) (journals.journal_behind before front)
 torn_now before r records front x e fits same bytes = record {
   count = 0;
   torn = front;
   fewer = omega arith;
   is =
-      next_stop before front reading.Part (record_front (journals.counted before) (length (journals.content before).log) r front x e fits bytes same)
+      next_stop before front reading.Part (record_front (journals.has_count before) (length (journals.content before).log) r front x e fits bytes same)
       ∙ ap (λ (t : List journal_records.Record). record { records = t; rest = front; why = reading.Part }) (sym (append-nil before));
 }
 
 -- the first record is whole, and the torn one is behind it
 torn_later : (before : List journal_records.Record) (r : journal_records.Record) (records : List journal_records.Record) (front rest : List ℕ) → front ≡ journal_records.record_bytes r ++ rest
-    → journal_records.FitsRecord (journals.counted before) (length (journals.content before).log) r → reading.IsBytes (journal_records.record_bytes r ++ rest)
+    → journal_records.FitsRecord (journals.has_count before) (length (journals.content before).log) r → reading.IsBytes (journal_records.record_bytes r ++ rest)
     → appends.IsTornAppend (before ++ r ∷ []) records (journals.journal_behind (before ++ r ∷ []) rest)
     → appends.IsTornAppend before (r ∷ records) (journals.journal_behind before front)
 torn_later before r records front rest same fits bytes later =

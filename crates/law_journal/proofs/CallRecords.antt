@@ -16,14 +16,14 @@ use Rattle.law_journal.specs.Appends as appends
 pub content-more : (before records : List journal_records.Record) → journals.content (before ++ records) ≡ fold journals.after_record (journals.content before) records
 content-more before records = fold-append journals.after_record _ before records
 
-counted-more : (before records : List journal_records.Record) → journals.counted (before ++ records) ≡ (journals.counted before || journals.counted records)
+counted-more : (before records : List journal_records.Record) → journals.has_count (before ++ records) ≡ (journals.has_count before || journals.has_count records)
 counted-more before records = list_any-append journals.is_count before records
 
-is_counted_more : (before records : List journal_records.Record) → journals.counted before ≡ true → journals.counted (before ++ records) ≡ true
-is_counted_more before records is = counted-more before records ∙ ap (λ (b : Bool). b || journals.counted records) is
+is_counted_more : (before records : List journal_records.Record) → journals.has_count before ≡ true → journals.has_count (before ++ records) ≡ true
+is_counted_more before records is = counted-more before records ∙ ap (λ (b : Bool). b || journals.has_count records) is
 
-counted_now : (before : List journal_records.Record) (n : ℕ) → journals.counted (before ++ journal_records.Count n ∷ []) ≡ true
-counted_now before n = counted-more before (journal_records.Count n ∷ []) ∙ either (journals.counted before)
+counted_now : (before : List journal_records.Record) (n : ℕ) → journals.has_count (before ++ journal_records.Count n ∷ []) ≡ true
+counted_now before n = counted-more before (journal_records.Count n ∷ []) ∙ either (journals.has_count before)
   where
     either : (b : Bool) → (b || true) ≡ true
     either true = refl
@@ -34,7 +34,7 @@ same_content before = ap journals.content (append-nil before)
 
 -- ---- a vote, or a cut: one record that stands behind any
 
-one_is : (before : List journal_records.Record) (counted : Bool) (r : journal_records.Record) → journals.counted before ≡ counted → ranges.IsNumber (length (journals.content before).log)
+one_is : (before : List journal_records.Record) (counted : Bool) (r : journal_records.Record) → journals.has_count before ≡ counted → ranges.IsNumber (length (journals.content before).log)
     → ((c : Bool) (n : ℕ) → journal_records.FitsRecord c n r)
     → appends.IsWholeOrNone before (cond counted [] (journal_records.Count (length (journals.content before).log) ∷ []) ++ r ∷ []) (journals.after_record (journals.content before) r)
 one_is before true r is room fits = record { stand = (fits _ _, tt); whole = content-more before (r ∷ []); part = part }
@@ -51,11 +51,11 @@ one_is before false r is room fits = record { stand = ((is, refl, room), (fits _
 
 pub vote_is : (before : List journal_records.Record) (term : ℕ) (vote : Option ℕ) → ranges.IsNumber (length (journals.content before).log) → ranges.IsNumber term → journal_records.IsVote vote
     → appends.IsWholeOrNone before (journals.vote_records before term vote) (journals.after_record (journals.content before) (journal_records.Vote term vote))
-vote_is before term vote room ft fv = one_is before (journals.counted before) (journal_records.Vote term vote) refl room (λ c n. (ft, fv))
+vote_is before term vote room ft fv = one_is before (journals.has_count before) (journal_records.Vote term vote) refl room (λ c n. (ft, fv))
 
 pub cut_is : (before : List journal_records.Record) (last : ℕ) → ranges.IsNumber (length (journals.content before).log) → ranges.IsNumber last
     → appends.IsWholeOrNone before (journals.cut_records before last) (journals.after_record (journals.content before) (journal_records.Cut last))
-cut_is before last room fl = one_is before (journals.counted before) (journal_records.Cut last) refl room (λ c n. fl)
+cut_is before last room fl = one_is before (journals.has_count before) (journal_records.Cut last) refl room (λ c n. fl)
 
 -- ---- entries
 
@@ -63,7 +63,7 @@ with_none : (c : Loaded) → journals.with_entries c [] ≡ c
 with_none c = ap (λ (log : List Entry). record { term = c.term; vote = c.vote; log = log }) (append-nil c.log)
 
 -- records of entries behind a record of the number of entries
-placed_stand : (before : List journal_records.Record) (place : ℕ) (entries : List Entry) → journals.counted before ≡ true → place ≡ length (journals.content before).log + 1
+placed_stand : (before : List journal_records.Record) (place : ℕ) (entries : List Entry) → journals.has_count before ≡ true → place ≡ length (journals.content before).log + 1
     → length (journals.content before).log + length entries < 2 ^ 64 → AllByRecursion ranges.FitsEntry entries
     → appends.StandBehind before (journals.placed_records place entries)
 placed_stand before place [] is at room fits = tt
@@ -100,7 +100,7 @@ none_added before records entries = record { added = 0; within = omega arith; is
 counted_first : (before : List journal_records.Record) (n : ℕ) (records : List journal_records.Record) → journals.content (before ++ (journal_records.Count n ∷ records)) ≡ journals.content (before ++ records)
 counted_first before n records = content-more before (journal_records.Count n ∷ records) ∙ sym (content-more before records)
 
-added_is : (before : List journal_records.Record) (counted : Bool) (entries : List Entry) → journals.counted before ≡ counted
+added_is : (before : List journal_records.Record) (counted : Bool) (entries : List Entry) → journals.has_count before ≡ counted
     → length (journals.content before).log + length entries < 2 ^ 64 → AllByRecursion ranges.FitsEntry entries
     → appends.IsAdded before (cond counted [] (journal_records.Count (length (journals.content before).log) ∷ []) ++ journals.placed_records (length (journals.content before).log + 1) entries) entries
 added_is before true entries is room fits = record {
@@ -145,4 +145,4 @@ entries_are before [] room fits = record {
   whole = same_content before ∙ sym (with_none (journals.content before));
   part = λ count lt. absurd (omega arith);
 }
-entries_are before (e ∷ entries) room fits = added_is before (journals.counted before) (e ∷ entries) refl room fits
+entries_are before (e ∷ entries) room fits = added_is before (journals.has_count before) (e ∷ entries) refl room fits

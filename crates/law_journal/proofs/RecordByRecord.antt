@@ -23,14 +23,14 @@ some_byte (journal_records.Placed place entry) = omega arith
 -- what was read is spelled by the bytes that it took
 pub record IsNext (before : List journal_records.Record) (bytes : List ℕ) (r : journal_records.Record) (rest : List ℕ) : Type 0 where
   pub spelled : bytes ≡ journal_records.record_bytes r ++ rest
-  pub fits : journal_records.FitsRecord (journals.counted before) (length (journals.content before).log) r
+  pub fits : journal_records.FitsRecord (journals.has_count before) (length (journals.content before).log) r
   pub are_bytes : reading.IsBytes rest
   pub shorter : length rest < length bytes
 
 pub next_is : (before : List journal_records.Record) (bytes : List ℕ) (r : journal_records.Record) (rest : List ℕ) → reading.IsBytes bytes → journals.next_at before bytes ≡ ok r rest
     → IsNext before bytes r rest
 next_is before bytes r rest fits e =
-    let s = (record_exact (journals.counted before) (length (journals.content before).log)).spelled bytes r rest fits e in
+    let s = (record_exact (journals.has_count before) (length (journals.content before).log)).spelled bytes r rest fits e in
     record { spelled = s.0; fits = s.1; are_bytes = s.2; shorter = omega (arith, ap length s.0, length-append (journal_records.record_bytes r) rest, some_byte r) }
 
 -- ---- more steps than bytes change nothing
@@ -111,7 +111,7 @@ whole_read before (r ∷ records) more stand fits =
     let same : journals.records_bytes (r ∷ records) ++ more ≡ journal_records.record_bytes r ++ (journals.records_bytes records ++ more) =
     append_assoc (journal_records.record_bytes r) (journals.records_bytes records) more in
     let all : reading.IsBytes (journal_records.record_bytes r ++ (journals.records_bytes records ++ more)) = subst reading.IsBytes same fits in
-    let read = record_again (journals.counted before) (length (journals.content before).log) r (journals.records_bytes records ++ more) stand.0 in
+    let read = record_again (journals.has_count before) (length (journals.content before).log) r (journals.records_bytes records ++ more) stand.0 in
     let next = next_is before (journal_records.record_bytes r ++ (journals.records_bytes records ++ more)) r (journals.records_bytes records ++ more) all read in
     ap (journals.journal_behind before) same
     ∙ next_whole before (journal_records.record_bytes r ++ (journals.records_bytes records ++ more)) r (journals.records_bytes records ++ more) all read

@@ -10,7 +10,7 @@ use Rattle.spec_journal.specs.Journal as journals
 abbrev pub StandBehind : List journal_records.Record → List journal_records.Record → Type 0
 StandBehind before [] = Unit {0}
 StandBehind before (r ∷ records) =
-    journal_records.FitsRecord (journals.counted before) (length (journals.content before).log) r
+    journal_records.FitsRecord (journals.has_count before) (length (journals.content before).log) r
     × StandBehind (before ++ r ∷ []) records
 
 -- the first `count` of these records are whole, and behind them stands less than the next one

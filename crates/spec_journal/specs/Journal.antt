@@ -30,8 +30,8 @@ is_count (journal_records.Count entries) = true
 is_count _ = false
 
 -- whether a record of the number of entries stands among them
-abbrev pub counted : List journal_records.Record → Bool
-counted records = list_any is_count records
+abbrev pub has_count : List journal_records.Record → Bool
+has_count records = list_any is_count records
 
 abbrev pub records_bytes : List journal_records.Record → List ℕ
 records_bytes records = flat_map journal_records.record_bytes records
@@ -43,7 +43,7 @@ whole records = length (records_bytes records)
 -- 0 without a record, 2 where a record of the number of entries stands, else 1
 abbrev pub version_of : List journal_records.Record → ℕ
 version_of [] = 0
-version_of (r ∷ records) = if counted (r ∷ records) then 2 else 1
+version_of (r ∷ records) = if has_count (r ∷ records) then 2 else 1
 
 -- ---- what bytes are
 
@@ -56,7 +56,7 @@ pub record Journal : Type 0 where
 
 -- the record with which bytes begin, where it stands behind these records
 abbrev pub next_at : List journal_records.Record → List ℕ → reading.Reading journal_records.Record
-next_at before bytes = journal_records.record_at (counted before) (length (content before).log) bytes
+next_at before bytes = journal_records.record_at (has_count before) (length (content before).log) bytes
 
 -- the journal of these records and of at most so many of those with which the bytes behind them begin
 unfoldable pub read_on : ℕ → List journal_records.Record → List ℕ → Journal
@@ -89,7 +89,7 @@ loaded_of j = elim j.why [ reading.Part ↦ Ok (content j.records) | reading.Wro
 
 -- the record with which an append begins, where none of the number of entries stands yet
 abbrev pub first_record : List journal_records.Record → List journal_records.Record
-first_record before = if counted before then [] else (journal_records.Count (length (content before).log) ∷ [])
+first_record before = if has_count before then [] else (journal_records.Count (length (content before).log) ∷ [])
 
 -- the records of entries, the first of them at this place
 abbrev pub placed_records : ℕ → List Entry → List journal_records.Record

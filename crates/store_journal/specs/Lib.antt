@@ -1,3 +1,3 @@
-pub mod Told
-pub mod Kept
-pub mod Memory
+pub mod StoreTold
+pub mod KeeperTold
+pub mod MemStores

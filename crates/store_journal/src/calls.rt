@@ -1,6 +1,6 @@
 ghost use Rattle.std.specs.Prelude.{◌≡◌, OnSome, ◌≤◌};
 ghost use Rattle.ax_io.specs.Count as counts;
-ghost use Rattle.store_journal.specs.Memory as memory;
+ghost use Rattle.store_journal.specs.MemStores as memory;
 
 use ax_io::Faults;
 use ax_types::List;
@@ -15,7 +15,7 @@ pub struct Calls {
 }
 
 impl Model for Calls {
-    ghost use Rattle.store_journal.specs.Memory as memory;
+    ghost use Rattle.store_journal.specs.MemStores as memory;
 
     ghost Value = { memory.Calls };
 
@@ -35,8 +35,8 @@ impl Calls {
     }
 
     /// How much is kept of the next call, where it is one that fails.
-    fn kept_next(&self) -> Option<u64>
-        ensures { result ≡ memory.kept_next self.now }
+    fn kept_of_call(&self) -> Option<u64>
+        ensures { result ≡ memory.kept_of_call self.now }
     {
         let call = self.made.saturating_add(1);
         self.failing
@@ -47,12 +47,12 @@ impl Calls {
 
     /// Counts a call, and answers how much is kept of it, where it is one that fails.
     pub fn next(&mut self) -> Option<u64>
-        ensures kept { result ≡ memory.kept_next self.old }
+        ensures kept { result ≡ memory.kept_of_call self.old }
         ensures after { self.new ≡ memory.after_call self.old }
         ensures never_falls { self.old.faults ≤ self.new.faults }
         ensures rises { OnSome result (counts.Rose self.old.faults self.new.faults) }
     {
-        let kept = self.kept_next();
+        let kept = self.kept_of_call();
         self.made = self.made.saturating_add(1);
         if kept.is_some() {
             let _ = self.faults.raise();

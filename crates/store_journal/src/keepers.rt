@@ -1,5 +1,5 @@
 ghost use Rattle.std.specs.Prelude.{◌≡◌, ◌≢◌, ℕ, List as Items, [], Option as Maybe};
-ghost use Rattle.store_journal.specs.Kept as keepers;
+ghost use Rattle.store_journal.specs.KeeperTold as keepers;
 
 use ax_types::{KeeperError, List};
 

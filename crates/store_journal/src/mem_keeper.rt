@@ -1,7 +1,7 @@
 ghost use Rattle.std.specs.Prelude.{◌≡◌, ◌≢◌, ◌↔◌, [], Some, IsErrOf, IsTrue};
 ghost use Rattle.ax_types.specs.declared.refusals.KeeperError.TheVariants as keeper_error;
-ghost use Rattle.store_journal.specs.Kept as keepers;
-ghost use Rattle.store_journal.specs.Memory as memory;
+ghost use Rattle.store_journal.specs.KeeperTold as keepers;
+ghost use Rattle.store_journal.specs.MemStores as memory;
 
 use crate::Keeper;
 use crate::calls::Calls;
@@ -17,7 +17,7 @@ pub struct MemKeeper {
 }
 
 impl Model for MemKeeper {
-    ghost use Rattle.store_journal.specs.Memory as memory;
+    ghost use Rattle.store_journal.specs.MemStores as memory;
 
     ghost Value = { memory.MemBytes };
 
@@ -39,7 +39,7 @@ impl MemKeeper {
 }
 
 impl Keeper for MemKeeper {
-    ghost use Rattle.store_journal.specs.Memory as memory;
+    ghost use Rattle.store_journal.specs.MemStores as memory;
     ghost use Rattle.std.specs.Prelude.{Some};
 
     ghost faults = { λ k. k.calls.faults };
@@ -52,7 +52,7 @@ impl Keeper for MemKeeper {
         ensures counted { keepers.KeeperCounted self.old.calls.faults self.new.calls.faults result }
         ensures appended { keepers.Appends (Some self.old.content) (Some self.new.content) bytes.now result }
 
-        ensures named { IsErrOf result keeper_error.Failed ↔ IsTrue (memory.fails_next self.old.calls) }
+        ensures named { IsErrOf result keeper_error.Failed ↔ IsTrue (memory.call_fails self.old.calls) }
         ensures calls { self.new.calls ≡ memory.after_call self.old.calls }
     {
         match self.calls.next() {
@@ -74,7 +74,7 @@ impl Keeper for MemKeeper {
         ensures counted { keepers.KeeperCounted self.old.calls.faults self.new.calls.faults result }
         ensures trimmed { keepers.Trims (Some self.old.content) (Some self.new.content) length result }
 
-        ensures named { IsErrOf result keeper_error.Failed ↔ IsTrue (memory.fails_next self.old.calls) }
+        ensures named { IsErrOf result keeper_error.Failed ↔ IsTrue (memory.call_fails self.old.calls) }
         ensures calls { self.new.calls ≡ memory.after_call self.old.calls }
     {
         if self.calls.next().is_some() {
@@ -89,7 +89,7 @@ impl Keeper for MemKeeper {
         ensures bytes { keepers.AreBytes (Some self.old.content) result }
         ensures content { Some self.new.content ≡ Some self.old.content }
 
-        ensures named { IsErrOf result keeper_error.Failed ↔ IsTrue (memory.fails_next self.old.calls) }
+        ensures named { IsErrOf result keeper_error.Failed ↔ IsTrue (memory.call_fails self.old.calls) }
         ensures calls { self.new.calls ≡ memory.after_call self.old.calls }
     {
         if self.calls.next().is_some() {

@@ -3,8 +3,8 @@ ghost use Rattle.ax_types.specs.Loads as loads;
 ghost use Rattle.ax_types.specs.declared.refusals.StoreError.TheVariants as store_error;
 ghost use Rattle.ax_io.specs.Count as counts;
 ghost use Rattle.spec_node.specs.Saving as saving;
-ghost use Rattle.store_journal.specs.Told as stores;
-ghost use Rattle.store_journal.specs.Memory as memory;
+ghost use Rattle.store_journal.specs.StoreTold as stores;
+ghost use Rattle.store_journal.specs.MemStores as memory;
 
 use crate::NodeStore;
 use crate::calls::Calls;
@@ -34,7 +34,7 @@ pub struct MemStore {
 }
 
 impl Model for MemStore {
-    ghost use Rattle.store_journal.specs.Memory as memory;
+    ghost use Rattle.store_journal.specs.MemStores as memory;
 
     ghost Value = { memory.MemKept };
 
@@ -63,7 +63,7 @@ impl MemStore {
 
     /// Counts a call, and answers whether it fails. After one that fails the store is in need of a load.
     fn fails(&mut self) -> bool
-        ensures fails { result ≡ memory.fails_next self.old.calls }
+        ensures fails { result ≡ memory.call_fails self.old.calls }
         ensures content { self.new.content ≡ self.old.content }
         ensures calls { self.new.calls ≡ memory.after_call self.old.calls }
         ensures needs_load { self.new.needs_load ≡ (if result then true else self.old.needs_load) }
@@ -102,8 +102,8 @@ impl MemStore {
 }
 
 impl NodeStore for MemStore {
-    ghost use Rattle.store_journal.specs.Told as stores;
-    ghost use Rattle.store_journal.specs.Memory as memory;
+    ghost use Rattle.store_journal.specs.StoreTold as stores;
+    ghost use Rattle.store_journal.specs.MemStores as memory;
 
     ghost faults = { λ s. s.calls.faults };
 
@@ -114,14 +114,14 @@ impl NodeStore for MemStore {
     ghost needs_load = { λ s. s.needs_load };
 
     fn load(&mut self) -> Result<Loaded, StoreError>
-        ensures counted { stores.Counted self.old.calls.faults self.new.calls.faults result }
+        ensures counted { stores.StoreCounted self.old.calls.faults self.new.calls.faults result }
         ensures loaded { stores.IsLoaded (stores.Content self.old.content) result }
         ensures told { stores.Content self.new.content ≡ stores.Content self.old.content }
         ensures version { memory.version_of_kept self.new.content ≡ memory.version_of_kept self.old.content }
         ensures ready { OnOk result (self.new.needs_load ≡ false) }
         ensures failed { IsErrOf result store_error.Failed → self.new.needs_load ≡ true }
 
-        ensures named { IsErrOf result store_error.Failed ↔ IsTrue (memory.fails_next self.old.calls) }
+        ensures named { IsErrOf result store_error.Failed ↔ IsTrue (memory.call_fails self.old.calls) }
         ensures calls { self.new.calls ≡ memory.after_call self.old.calls }
     {
         if self.fails() {
@@ -138,12 +138,12 @@ impl NodeStore for MemStore {
 
     fn set_vote(&mut self, term: u64, vote: Option<NodeId>) -> Result<(), StoreError>
         requires loaded { self.old.needs_load ≡ false }
-        ensures counted { stores.Counted self.old.calls.faults self.new.calls.faults result }
+        ensures counted { stores.StoreCounted self.old.calls.faults self.new.calls.faults result }
         ensures saved { stores.Saves (saving.Vote term vote) (stores.Content self.old.content) (stores.Content self.new.content) result }
         ensures ready { OnOk result (self.new.needs_load ≡ false) }
         ensures failed { IsErrOf result store_error.Failed → self.new.needs_load ≡ true }
 
-        ensures named { IsErrOf result store_error.Failed ↔ IsTrue (memory.fails_next self.old.calls) }
+        ensures named { IsErrOf result store_error.Failed ↔ IsTrue (memory.call_fails self.old.calls) }
         ensures calls { self.new.calls ≡ memory.after_call self.old.calls }
     {
         if self.fails() {
@@ -157,12 +157,12 @@ impl NodeStore for MemStore {
     fn cut(&mut self, last: u64) -> Result<(), StoreError>
         requires loaded { self.old.needs_load ≡ false }
         requires within { stores.CutsWithin (stores.Content self.old.content) last }
-        ensures counted { stores.Counted self.old.calls.faults self.new.calls.faults result }
+        ensures counted { stores.StoreCounted self.old.calls.faults self.new.calls.faults result }
         ensures saved { stores.Saves (saving.Cut last) (stores.Content self.old.content) (stores.Content self.new.content) result }
         ensures ready { OnOk result (self.new.needs_load ≡ false) }
         ensures failed { IsErrOf result store_error.Failed → self.new.needs_load ≡ true }
 
-        ensures named { IsErrOf result store_error.Failed ↔ IsTrue (memory.fails_next self.old.calls) }
+        ensures named { IsErrOf result store_error.Failed ↔ IsTrue (memory.call_fails self.old.calls) }
         ensures calls { self.new.calls ≡ memory.after_call self.old.calls }
     {
         if self.fails() {
@@ -175,12 +175,12 @@ impl NodeStore for MemStore {
     /// Of a call that fails the entries are kept up to its number, or none where memory is wanting.
     fn add(&mut self, entries: &[Entry]) -> Result<(), StoreError>
         requires loaded { self.old.needs_load ≡ false }
-        ensures counted { stores.Counted self.old.calls.faults self.new.calls.faults result }
+        ensures counted { stores.StoreCounted self.old.calls.faults self.new.calls.faults result }
         ensures saved { stores.Saves (saving.Add entries.now) (stores.Content self.old.content) (stores.Content self.new.content) result }
         ensures ready { OnOk result (self.new.needs_load ≡ false) }
         ensures failed { IsErrOf result store_error.Failed → self.new.needs_load ≡ true }
 
-        ensures named { IsErrOf result store_error.Failed ↔ IsTrue (memory.fails_next self.old.calls) }
+        ensures named { IsErrOf result store_error.Failed ↔ IsTrue (memory.call_fails self.old.calls) }
         ensures calls { self.new.calls ≡ memory.after_call self.old.calls }
     {
         match self.calls.next() {
@@ -198,13 +198,13 @@ impl NodeStore for MemStore {
     }
 
     fn upgrade(&mut self) -> Result<Upgraded, StoreError>
-        ensures counted { stores.Counted self.old.calls.faults self.new.calls.faults result }
+        ensures counted { stores.StoreCounted self.old.calls.faults self.new.calls.faults result }
         ensures upgraded { stores.Upgrades (stores.Content self.old.content) (memory.version_of_kept self.old.content) (memory.version_of_kept self.new.content) result }
         ensures told { stores.Content self.new.content ≡ stores.Content self.old.content }
         ensures ready { OnOk result (self.new.needs_load ≡ false) }
         ensures failed { IsErrOf result store_error.Failed → self.new.needs_load ≡ true }
 
-        ensures named { IsErrOf result store_error.Failed ↔ IsTrue (memory.fails_next self.old.calls) }
+        ensures named { IsErrOf result store_error.Failed ↔ IsTrue (memory.call_fails self.old.calls) }
         ensures calls { self.new.calls ≡ memory.after_call self.old.calls }
     {
         if self.fails() {

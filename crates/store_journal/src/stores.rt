@@ -1,7 +1,7 @@
 ghost use Rattle.std.specs.Prelude.{◌≡◌, ℕ, Bool, true, false, length, IfOk, OnOk, IsErrOf};
 ghost use Rattle.ax_types.specs.declared.refusals.StoreError.TheVariants as store_error;
 ghost use Rattle.spec_node.specs.Saving as saving;
-ghost use Rattle.store_journal.specs.Told as stores;
+ghost use Rattle.store_journal.specs.StoreTold as stores;
 
 use ax_types::{Entry, Loaded, NodeId, StoreError, Upgraded};
 
@@ -22,7 +22,7 @@ pub trait NodeStore: Drop {
 
     /// The kept term, vote and log.
     fn load(&mut self) -> Result<Loaded, StoreError>
-        ensures counted { stores.Counted (faults self.old) (faults self.new) result }
+        ensures counted { stores.StoreCounted (faults self.old) (faults self.new) result }
         ensures loaded { stores.IsLoaded (told self.old) result }
         ensures told { told self.new ≡ told self.old }
         ensures version { version self.new ≡ version self.old }
@@ -32,7 +32,7 @@ pub trait NodeStore: Drop {
     /// Keeps a term and the vote in it.
     fn set_vote(&mut self, term: u64, vote: Option<NodeId>) -> Result<(), StoreError>
         requires loaded { needs_load self.old ≡ false }
-        ensures counted { stores.Counted (faults self.old) (faults self.new) result }
+        ensures counted { stores.StoreCounted (faults self.old) (faults self.new) result }
         ensures saved { stores.Saves (saving.Vote term vote) (told self.old) (told self.new) result }
         ensures ready { OnOk result (needs_load self.new ≡ false) }
         ensures failed { IsErrOf result store_error.Failed → needs_load self.new ≡ true };
@@ -41,7 +41,7 @@ pub trait NodeStore: Drop {
     fn cut(&mut self, last: u64) -> Result<(), StoreError>
         requires loaded { needs_load self.old ≡ false }
         requires within { stores.CutsWithin (told self.old) last }
-        ensures counted { stores.Counted (faults self.old) (faults self.new) result }
+        ensures counted { stores.StoreCounted (faults self.old) (faults self.new) result }
         ensures saved { stores.Saves (saving.Cut last) (told self.old) (told self.new) result }
         ensures ready { OnOk result (needs_load self.new ≡ false) }
         ensures failed { IsErrOf result store_error.Failed → needs_load self.new ≡ true };
@@ -49,7 +49,7 @@ pub trait NodeStore: Drop {
     /// Keeps more entries, behind those of the log. After `Failed` the first of them may be kept.
     fn add(&mut self, entries: &[Entry]) -> Result<(), StoreError>
         requires loaded { needs_load self.old ≡ false }
-        ensures counted { stores.Counted (faults self.old) (faults self.new) result }
+        ensures counted { stores.StoreCounted (faults self.old) (faults self.new) result }
         ensures saved { stores.Saves (saving.Add entries.now) (told self.old) (told self.new) result }
         ensures ready { OnOk result (needs_load self.new ≡ false) }
         ensures failed { IsErrOf result store_error.Failed → needs_load self.new ≡ true };
@@ -57,7 +57,7 @@ pub trait NodeStore: Drop {
     /// Loads the store, and brings what it keeps to the newest version. Answers the version that was found, and the
     /// number of entries.
     fn upgrade(&mut self) -> Result<Upgraded, StoreError>
-        ensures counted { stores.Counted (faults self.old) (faults self.new) result }
+        ensures counted { stores.StoreCounted (faults self.old) (faults self.new) result }
         ensures upgraded { stores.Upgrades (told self.old) (version self.old) (version self.new) result }
         ensures told { told self.new ≡ told self.old }
         ensures ready { OnOk result (needs_load self.new ≡ false) }

@@ -14,7 +14,7 @@ pub data Told : Type 0 where
   Untold : Told
 
 -- what a call did to the count of faults: it did not fall, and `Failed` means that it rose
-pub record Counted {T : Type 0} (before now : ℕ) (result : Result T StoreError) : Type 0 where
+pub record StoreCounted {T : Type 0} (before now : ℕ) (result : Result T StoreError) : Type 0 where
   pub never_falls : before ≤ now
   pub rises : IsErrOf result store_error.Failed → counts.Rose before now
 
@@ -29,13 +29,13 @@ IsLoaded (Bad at) (Err _) = Unit {0}
 IsLoaded Untold _ = Unit {0}
 
 -- what a call that failed leaves: of the entries of an `add` the first ones may be kept
-pub record IsLeft (kept : Loaded) (call : saving.Save) (now : Loaded) : Type 0 where
+pub record IsLeftBy (kept : Loaded) (call : saving.Save) (now : Loaded) : Type 0 where
   pub added : ℕ
   pub within : added ≤ length (saving.at_stake (Some call))
   pub same : now ≡ saving.with_rest kept (saving.at_stake (Some call)) added
 
 abbrev pub IsLeftTold : Loaded → saving.Save → Told → Type 0
-IsLeftTold kept call (Content now) = IsLeft kept call now
+IsLeftTold kept call (Content now) = IsLeftBy kept call now
 IsLeftTold kept call _ = ⊥
 
 -- what a call that keeps something does to what is told

@@ -12,14 +12,14 @@ pub record Calls : Type 0 where
   pub faults : ℕ
 
 -- how much is kept of the next call, where it is one that fails
-abbrev pub kept_next : Calls → Option ℕ
-kept_next c = option_map (λ pair. pair.1) (find (λ pair. pair.0 == counts.one_more c.made) c.failing)
+abbrev pub kept_of_call : Calls → Option ℕ
+kept_of_call c = option_map (λ pair. pair.1) (find (λ pair. pair.0 == counts.one_more c.made) c.failing)
 
-abbrev pub fails_next : Calls → Bool
-fails_next c = is_some (kept_next c)
+abbrev pub call_fails : Calls → Bool
+call_fails c = is_some (kept_of_call c)
 
 abbrev pub after_call : Calls → Calls
-after_call c = record { failing = c.failing; made = counts.one_more c.made; faults = if fails_next c then counts.one_more c.faults else c.faults }
+after_call c = record { failing = c.failing; made = counts.one_more c.made; faults = if call_fails c then counts.one_more c.faults else c.faults }
 
 -- a store in memory
 pub record MemKept : Type 0 where
