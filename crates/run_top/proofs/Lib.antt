@@ -1,4 +1,3 @@
 pub mod FaithfulLemmas
 pub mod FormLemmas
 pub mod ReportLemmas
-pub mod SourceLemmas

@@ -6,7 +6,6 @@ ghost use Rattle.ax_io.specs.Content as ax_io_content;
 ghost use Rattle.ax_io.specs.Count as counts;
 ghost use Rattle.run_top.specs.Answers as answers;
 ghost use Rattle.run_top.specs.Outcomes as outcomes;
-ghost use Rattle.run_top.specs.SourceRests as source_rests;
 
 mod form;
 mod judge;
@@ -50,8 +49,6 @@ pub fn run_top<I: Source, O: Sink>(
     // Where neither all nor a part of a report was written, the sink was not called; nor was the source for words that are refused.
     ensures quiet { result ≢ Status.Done → result ≢ Status.WriteFault → output.new ≡ output.old }
     ensures unread { result ≡ Status.Usage → input.new ≡ input.old }
-    // What is left of the source, after every status.
-    ensures source { source_rests.LeavesSource (I.content input.old) (I.content input.new) result }
 
     ensures faithful { result ≡ Status.Done
         → IfSome (I.content input.old) (λ content. IsOkAnd (answers.judged (outcomes.input_bytes content)) outcomes.RunsFaithfully) }

@@ -1,16 +1,14 @@
-ghost use Rattle.std.specs.Prelude.{◌≡◌, ◌≤◌, map, string_bytes, IsErrOf, IfSome, IfOk, OnOk, OnErr};
-ghost use Rattle.ax_io.specs.Content as ax_io_content;
+ghost use Rattle.std.specs.Prelude.{◌≡◌, ◌≤◌, map, string_bytes, IsErrOf, IfSome};
 ghost use Rattle.ax_io.specs.Count as counts;
 ghost use Rattle.run_top.specs.Answers as answers;
 ghost use Rattle.run_top.specs.Outcomes as outcomes;
-ghost use Rattle.run_top.specs.SourceRests as source_rests;
 
 use crate::judge::judge;
 use crate::refusals::Refused;
 use crate::report::report_of_calls;
-use ax_io::{ReadError, Source, read_up_to};
+use ax_io::{Source, read_up_to};
 use ax_types::limits::MAX_SCRIPT;
-use ax_types::{ClientId, Command, List, NodeId};
+use ax_types::{ClientId, Command, NodeId};
 use command_words::{WordsRefused, command_of};
 use std::alloc::Global;
 
@@ -44,29 +42,16 @@ fn only_client() -> ClientId
     }
 }
 
-/// Reads the bytes of the longest script and one more, or all where there are fewer.
-fn read_script<I: Source>(alloc: Global, input: &mut I) -> Result<List<u8>, ReadError>
-    ensures count { I.faults input.old ≤ I.faults input.new }
-    ensures failed { IsErrOf result ReadError.Failed → counts.Rose (I.faults input.old) (I.faults input.new) }
-    ensures bytes { IfOk result (λ bytes. IfSome (I.content input.old) (λ content. bytes ≡ outcomes.input_bytes content)) }
-    ensures moved { IfOk result (λ bytes. I.content input.old ≡ ax_io_content.prepend_told bytes (I.content input.new)) }
-    ensures rest { OnOk result (I.content input.new ≡ source_rests.script_rest (I.content input.old)) }
-    ensures lost { OnErr result (ax_io_content.LosesFront (I.content input.old) (I.content input.new)) }
-{
-    read_up_to(alloc, input, MAX_SCRIPT + 1)
-}
-
 /// The report that the words and the input ask for.
 pub fn report<I: Source>(alloc: Global, words: &[String], input: &mut I) -> Result<String, Refused>
     ensures usage { outcomes.Accepts (answers.is_run_command (map string_bytes words.now)) result }
     ensures unread { IsErrOf result Refused.Usage → input.new ≡ input.old }
-    ensures source { source_rests.LeavesInput (I.content input.old) (I.content input.new) result }
     ensures count { I.faults input.old ≤ I.faults input.new }
     ensures read_fault { IsErrOf result Refused.ReadFault → counts.Rose (I.faults input.old) (I.faults input.new) }
     ensures reports { IfSome (I.content input.old) (λ content. outcomes.Reports string_bytes (answers.judged (outcomes.input_bytes content)) result) }
 {
     accept(alloc, words)?;
-    let bytes = read_script(alloc, input)?;
+    let bytes = read_up_to(alloc, input, MAX_SCRIPT + 1)?;
     let calls = judge(alloc, bytes.as_slice())?;
     let report = report_of_calls(alloc, only_node(), only_client(), calls.as_slice())?;
     Ok(report)
