@@ -1,3 +1,4 @@
 pub mod Told
 pub mod Kept
 pub mod Memory
+pub mod Journaled

@@ -1,0 +1,5 @@
+mod PlacedSoFar
+mod RecordsSoFar
+mod Grown
+mod CallsKept
+mod StoreCalls
