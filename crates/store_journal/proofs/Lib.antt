@@ -3,3 +3,4 @@ mod RecordsSoFar
 mod Grown
 mod CallsKept
 mod StoreCalls
+mod StoreReads

@@ -42,11 +42,11 @@ one_more_put before now next last place entries count x lt same so_far put fits 
     let at : place + 1 ≡ (last + 1) + count = omega (arith, so_far.at) in
     rw (add-one count) (record {
       bytes =
-        put
-        ∙ ap (λ (n : ℕ). now ++ journal_records.record_bytes (journal_records.Placed n x)) at
-        ∙ ap (λ (t : List ℕ). t ++ journal_records.record_bytes (journal_records.Placed ((last + 1) + count) x)) so_far.bytes
-        ∙ append_assoc before (journals.records_bytes (journals.placed_records (last + 1) (take count entries))) (journal_records.record_bytes (journal_records.Placed ((last + 1) + count) x))
-        ∙ ap (λ (t : List ℕ). before ++ t) (sym (each_put (last + 1) entries count x lt same));
+          put
+          ∙ ap (λ (n : ℕ). now ++ journal_records.record_bytes (journal_records.Placed n x)) at
+          ∙ ap (λ (t : List ℕ). t ++ journal_records.record_bytes (journal_records.Placed ((last + 1) + count) x)) so_far.bytes
+          ∙ append_assoc before (journals.records_bytes (journals.placed_records (last + 1) (take count entries))) (journal_records.record_bytes (journal_records.Placed ((last + 1) + count) x))
+          ∙ ap (λ (t : List ℕ). before ++ t) (sym (each_put (last + 1) entries count x lt same));
       at = omega (arith, so_far.at);
       fits = each_fits entries count x lt same so_far.fits fits;
     })

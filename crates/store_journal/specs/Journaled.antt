@@ -13,6 +13,7 @@ use Rattle.store_journal.specs.declared.reading.Journal.{Journal}
 use Rattle.store_journal.specs.declared.records.Record.{Record}
 use Rattle.store_journal.specs.declared.records.Record.TheVariants as record_variants
 use Rattle.store_journal.specs.Kept as keepers
+use Rattle.store_journal.specs.LeftBy as left_by
 use Rattle.store_journal.specs.Told as stores
 
 -- the keeper, and whether the store has to be loaded before anything is kept in it
@@ -72,17 +73,6 @@ GivesRecord (Err unread.Part) rest read = read ≡ Err reading.Part
 GivesRecord (Err unread.Wrong) rest read = read ≡ Err reading.Wrong
 GivesRecord (Err unread.NoMemory) rest read = Unit {0}
 
--- what records leave, and whether one of the number of entries is among them
-pub record Left : Type 0 where
-  pub content : Loaded
-  pub counted : Bool
-
-abbrev pub left_by : List journal_records.Record → Left
-left_by records = record { content = journals.content records; counted = journals.counted records }
-
-abbrev pub left_after : Left → journal_records.Record → Left
-left_after left r = record { content = journals.after_record left.content r; counted = left.counted || journals.is_count r }
-
 abbrev pub is_wrong : reading.Fault → Bool
 is_wrong reading.Part = false
 is_wrong reading.Wrong = true
@@ -104,7 +94,7 @@ Appended before now bytes (Err store_error.NoMemory) = now ≡ before
 
 -- it is the one of these bytes, and no bad byte stands behind its records
 pub record IsReadJournal (bytes : List ℕ) (j : Journal) : Type 0 where
-  pub left : j.left ≡ left_by (journals.records_of bytes)
+  pub left : j.left ≡ left_by.left_by (journals.records_of bytes)
   pub whole : j.whole ≡ journals.whole (journals.records_of bytes)
   pub part : (journals.journal_of bytes).why ≡ reading.Part
 

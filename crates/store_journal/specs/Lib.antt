@@ -1,4 +1,5 @@
 pub mod Told
 pub mod Kept
 pub mod Memory
+pub mod LeftBy
 pub mod Journaled

@@ -134,7 +134,7 @@ impl<K: Keeper> NodeStore for JournalStore<K> {
 
     fn cut(&mut self, last: u64) -> Result<(), StoreError> {
         let bytes = cut_bytes(self.alloc, self.counted, self.entries, last)?;
-        self.append(&bytes, self.entries.min(last))
+        self.append(&bytes, last.min(self.entries))
     }
 
     /// Of a call that fails the first entries may be kept. Places beyond their type count as want of memory.

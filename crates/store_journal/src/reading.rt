@@ -1,6 +1,7 @@
 ghost use Rattle.std.specs.Prelude.{◌≡◌, ◌<◌, ◌^◌, [], length, IfOk, OnOk};
 ghost use Rattle.spec_journal.specs.Journal as journals;
 ghost use Rattle.store_journal.specs.Journaled as journaled;
+ghost use Rattle.store_journal.specs.LeftBy as left_by;
 
 use crate::record_reader::read_record;
 use crate::records::Record;
@@ -19,9 +20,9 @@ pub struct Left {
 }
 
 impl Model for Left {
-    ghost use Rattle.store_journal.specs.Journaled as journaled;
+    ghost use Rattle.store_journal.specs.LeftBy as left_by;
 
-    ghost Value = { journaled.Left };
+    ghost Value = { left_by.Left };
 
     ghost view = { λ a. record { content = record { term = a.term; vote = a.vote; log = a.log.items }; counted = a.counted } };
 }
@@ -29,7 +30,7 @@ impl Model for Left {
 impl Left {
     /// What no record leaves.
     fn nothing(alloc: Global) -> Left
-        ensures { result ≡ journaled.left_by [] }
+        ensures { result ≡ left_by.left_by [] }
     {
         Left {
             term: 0,
@@ -55,10 +56,10 @@ impl Left {
     }
 
     /// One record more.
-    fn take(&mut self, record: Record) -> Result<(), NoMemory>
-        ensures { OnOk result (self.new ≡ journaled.left_after self.old (journaled.record_of record)) }
+    fn take(&mut self, next: Record) -> Result<(), NoMemory>
+        ensures { OnOk result (self.new ≡ left_by.left_after self.old (journaled.record_of next)) }
     {
-        match record {
+        match next {
             Record::Vote { term, vote } => {
                 self.term = term;
                 self.vote = vote;
@@ -109,7 +110,7 @@ impl Journal {
 
 /// The journal of these bytes.
 pub fn read_journal(alloc: Global, bytes: &[u8]) -> Result<Journal, NoMemory>
-    ensures left { IfOk result (λ j. j.left ≡ journaled.left_by (journals.records_of bytes.now)) }
+    ensures left { IfOk result (λ j. j.left ≡ left_by.left_by (journals.records_of bytes.now)) }
     ensures whole { IfOk result (λ j. j.whole ≡ journals.whole (journals.records_of bytes.now)) }
     ensures bad { IfOk result (λ j. j.is_bad ≡ journaled.is_wrong (journals.journal_of bytes.now).why) }
 {
@@ -118,10 +119,18 @@ pub fn read_journal(alloc: Global, bytes: &[u8]) -> Result<Journal, NoMemory>
     'records: loop {
         let whole = (bytes.len() - reader.left()) as u64;
         match read_record(&mut reader, left.is_counted(), left.entries()) {
-            Ok(record) => left.take(record)?,
+            Ok(next) => left.take(next)?,
             Err(Unread::NoMemory) => return Err(NoMemory),
-            Err(Unread::Part) => return Ok(Journal { left, whole, is_bad: false }),
-            Err(Unread::Wrong) => return Ok(Journal { left, whole, is_bad: true }),
+            Err(Unread::Part) => return Ok(Journal {
+                left,
+                whole,
+                is_bad: false,
+            }),
+            Err(Unread::Wrong) => return Ok(Journal {
+                left,
+                whole,
+                is_bad: true,
+            }),
         }
     }
 }

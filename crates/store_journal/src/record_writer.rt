@@ -11,6 +11,7 @@ use std::alloc::Global;
 
 /// Bytes of a record of the number of entries, and of the longest of the other records without an entry.
 const COUNT_BYTES: usize = 9;
+
 const VOTE_BYTES: usize = 10;
 
 /// Bytes in which most entries are spelled with their place.
@@ -46,7 +47,13 @@ fn vote_byte(vote: Option<NodeId>) -> u8
 }
 
 /// What keeping a term and a vote appends.
-pub fn vote_bytes(alloc: Global, counted: bool, entries: u64, term: u64, vote: Option<NodeId>) -> Result<Vec<u8>, NoMemory>
+pub fn vote_bytes(
+    alloc: Global,
+    counted: bool,
+    entries: u64,
+    term: u64,
+    vote: Option<NodeId>,
+) -> Result<Vec<u8>, NoMemory>
     ensures bytes { IfOk result (λ out. out.items ≡ journals.records_bytes (journaled.first_of counted entries ++ journal_records.Vote term vote ∷ [])) }
     ensures fits { OnOk result (journal_records.IsVote vote) }
 {
@@ -67,6 +74,16 @@ pub fn cut_bytes(alloc: Global, counted: bool, entries: u64, last: u64) -> Resul
     Ok(out)
 }
 
+/// An entry with its place.
+fn put_placed_entry(out: &mut Vec<u8>, place: u64, entry: &Entry) -> Result<(), NoMemory>
+    ensures bytes { OnOk result (out.new.items ≡ out.old.items ++ journal_records.record_bytes (journal_records.Placed place entry.now)) }
+    ensures fits { OnOk result (ranges.FitsEntry entry.now) }
+{
+    out.push(0x15)?;
+    put_u64(out, place)?;
+    put_entry(out, entry)
+}
+
 /// The entries, each with its place, of which the one before the first is `last`.
 fn put_placed(out: &mut Vec<u8>, last: u64, entries: &[Entry]) -> Result<(), NoMemory>
     requires { last + length entries.now < 2 ^ 64 }
@@ -75,16 +92,19 @@ fn put_placed(out: &mut Vec<u8>, last: u64, entries: &[Entry]) -> Result<(), NoM
 {
     let mut place = last;
     'entries: for entry in entries {
+        put_placed_entry(out, place + 1, entry)?;
         place += 1;
-        out.push(0x15)?;
-        put_u64(out, place)?;
-        put_entry(out, entry)?;
     }
     Ok(())
 }
 
 /// What adding these entries appends.
-pub fn add_bytes(alloc: Global, counted: bool, last: u64, entries: &[Entry]) -> Result<Vec<u8>, NoMemory>
+pub fn add_bytes(
+    alloc: Global,
+    counted: bool,
+    last: u64,
+    entries: &[Entry],
+) -> Result<Vec<u8>, NoMemory>
     requires { last + length entries.now < 2 ^ 64 }
     ensures bytes { IfOk result (λ out. out.items ≡ journals.records_bytes (journaled.first_of counted last ++ journals.placed_records (last + 1) entries.now)) }
     ensures fits { OnOk result (AllByRecursion ranges.FitsEntry entries.now) }

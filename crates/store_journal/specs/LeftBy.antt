@@ -1,0 +1,15 @@
+-- What records leave, and whether one of the number of entries is among them.
+use Rattle.std.specs.Prelude.{Bool, ◌||◌, List}
+use Rattle.ax_types.specs.declared.entries.Loaded.{Loaded}
+use Rattle.spec_journal.specs.Records as journal_records
+use Rattle.spec_journal.specs.Journal as journals
+
+pub record Left : Type 0 where
+  pub content : Loaded
+  pub counted : Bool
+
+abbrev pub left_by : List journal_records.Record → Left
+left_by records = record { content = journals.content records; counted = journals.counted records }
+
+abbrev pub left_after : Left → journal_records.Record → Left
+left_after left r = record { content = journals.after_record left.content r; counted = left.counted || journals.is_count r }
