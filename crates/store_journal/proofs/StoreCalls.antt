@@ -86,3 +86,29 @@ add_appends (Some bytes) counted entries (e ∷ added) count out is some sum roo
     (add_records_are (journals.records_of bytes) e added (omega (arith, total, room)) fa) fits
     (same ∙ by_known bytes counted entries (λ c n. journaled.first_of c n ++ journals.placed_records (n + 1) (e ∷ added)) is)
     (total ∙ sym (length-append (journals.content (journals.records_of bytes)).log (e ∷ added)))
+
+-- what is known of the fields is known of the store
+pub known : {K : Type 0} (content : K → Option (List ℕ)) (keeper : K) (needs counted : Bool) (entries : ℕ) (now : journaled.Journaled K) → record { keeper = keeper; needs_load = needs } ≡ now
+    → now.needs_load ≡ false → (needs ≡ false → journaled.IsWholeTold (content keeper) counted entries) → journaled.IsWholeTold (content now.keeper) counted entries
+known {K = K} content keeper needs counted entries now is loaded invariant =
+    subst (λ (s : journaled.Journaled K). journaled.IsWholeTold (content s.keeper) counted entries) is
+    (invariant (subst (λ (s : journaled.Journaled K). s.needs_load ≡ false) (sym is) loaded))
+
+pub add_some : (out : List ℕ) (first : List journal_records.Record) (place : ℕ) (added : List Entry) → added ≢ [] → out ≡ journals.records_bytes (first ++ journals.placed_records place added) → out ≢ []
+add_some out first place [] some same e = some refl
+add_some out first place (x ∷ added) some same e = some_record first (journal_records.Placed place x) (journals.placed_records (place + 1) added) (sym same ∙ e)
+
+pub not_bad : (before now : Option (List ℕ)) (bytes : List ℕ) (result : Result (Unit {0}) StoreError) → journaled.Appended before now bytes result → journaled.IsNotBad result
+not_bad before now bytes (Ok u) done = tt
+not_bad before now bytes (Err store_error.Failed) done = tt
+not_bad before now bytes (Err store_error.NoMemory) done = tt
+not_bad before now bytes (Err (store_error.Bad at)) none = none
+
+pub upgrade_fails : (told : stores.Told) (before now : ℕ) (e : StoreError) → journaled.IsNotBad (Err e) → stores.Upgrades told before now (Err e)
+upgrade_fails (stores.Content kept) before now store_error.Failed other = tt
+upgrade_fails (stores.Content kept) before now store_error.NoMemory other = tt
+upgrade_fails (stores.Content kept) before now (store_error.Bad at) other = absurd other
+upgrade_fails (stores.Bad b) before now store_error.Failed other = tt
+upgrade_fails (stores.Bad b) before now store_error.NoMemory other = tt
+upgrade_fails (stores.Bad b) before now (store_error.Bad at) other = absurd other
+upgrade_fails stores.Untold before now e other = tt

@@ -1,12 +1,14 @@
 -- Reading the journal of a store, where the keeper's bytes are told and where they are not.
 use Rattle.std.proofs.Common.{◌≡◌, ◌≢◌, ℕ, zero, suc, ◌+◌, ◌-◌, ◌<◌, ◌≤◌, List, [], ◌∷◌, ◌++◌, length, take, Bool, true, false, cond, nat_eq, Option, Some, None, Result, Ok, Err, refl, sym, ap, subst, arith, ◌∙◌}
-use Rattle.std.specs.Prelude.{◌^◌, ◌||◌}
+use Rattle.std.specs.Prelude.{◌^◌, ◌||◌, OnOk}
 use Rattle.std.proofs.lemmas.Bool.{ne_eqb}
 use Rattle.std.proofs.lemmas.List.{append-nil, length-append}
 use Rattle.std.proofs.lemmas.List.Folds.{list_any-append}
 use Rattle.std.proofs.lemmas.Grind.{flat_map-append}
 use Rattle.ax_types.specs.declared.entries.Loaded.{Loaded}
 use Rattle.ax_types.specs.declared.entries.Upgraded.{Upgraded}
+use Rattle.ax_types.specs.declared.refusals.KeeperError.{KeeperError}
+use Rattle.ax_types.specs.declared.refusals.KeeperError.TheVariants as keeper_error
 use Rattle.ax_types.specs.declared.refusals.StoreError.{StoreError}
 use Rattle.ax_types.specs.declared.refusals.StoreError.TheVariants as store_error
 use Rattle.ax_io.specs.Content as contents
@@ -86,6 +88,14 @@ read_untrimmed (Some content) now bytes are fits part le e =
     subst (λ (c : Option (List ℕ)). IsReadWhole (Some content) c (journals.counted (journals.records_of bytes)) (length (journals.content (journals.records_of bytes)).log)) (sym e)
     (subst (λ (c : List ℕ). IsReadWhole (Some c) (Some c) (journals.counted (journals.records_of bytes)) (length (journals.content (journals.records_of bytes)).log)) are
     (whole_now bytes bytes fits part (untrimmed bytes fits le part)))
+
+pub trims_whole : (before now : Option (List ℕ)) (bytes : List ℕ) (whole : ℕ) (result : Result (Unit {0}) KeeperError) → keepers.AreBytes before (Ok bytes) → reading.IsBytes bytes → (journals.journal_of bytes).why ≡ reading.Part
+    → whole ≡ journals.whole (journals.records_of bytes) → keepers.Trims before now whole result
+    → OnOk result (journaled.IsWholeTold now (journals.counted (journals.records_of bytes)) (length (journals.content (journals.records_of bytes)).log)) × journaled.AreSameRecords before now
+trims_whole before now bytes whole (Ok u) are fits part is done =
+    let all = read_trimmed before now bytes are fits part (done ∙ ap (λ (n : ℕ). keepers.take_told n before) is) in (all.is, all.same)
+trims_whole before now bytes whole (Err keeper_error.Failed) are fits part is kept = (tt, same_again before now kept)
+trims_whole before now bytes whole (Err keeper_error.NoMemory) are fits part is kept = (tt, same_again before now kept)
 
 -- ---- what loading answers
 
@@ -185,6 +195,11 @@ count_is_counted (Some bytes) now out counted entries is plain room fits same do
     ap journaled.version_told done
     ∙ ap (λ (j : journals.Journal). journals.version_of j.records) all
     ∙ version_counted (journals.records_of bytes ++ journal_records.Count entries ∷ []) (counts (journals.records_of bytes) entries)
+
+pub on_ok : (content now : Option (List ℕ)) (out : List ℕ) (counted : Bool) (entries : ℕ) (result : Result (Unit {0}) StoreError) → journaled.IsWholeTold content counted entries → journaled.IsPlainTold content → ranges.IsNumber entries → reading.IsBytes out
+    → out ≡ journals.records_bytes (journal_records.Count entries ∷ []) → journaled.Appended content now out result → OnOk result (journaled.IsCountedTold content now)
+on_ok content now out counted entries (Ok u) is plain room fits same done = count_is_counted content now out counted entries is plain room fits same done
+on_ok content now out counted entries (Err e) is plain room fits same done = tt
 
 -- ---- versions
 

@@ -122,3 +122,8 @@ IsCountedTold (Some bytes) now = version_told now ≡ 2
 -- the version of a journal by the bytes of its records
 abbrev pub version_by : ℕ → Bool → ℕ
 version_by whole counted = if nat_eq whole 0 then 0 else (if counted then 2 else 1)
+
+-- the answer is not that the bytes are no journal
+abbrev pub IsNotBad : Result (Unit {0}) StoreError → Type 0
+IsNotBad (Err (store_error.Bad at)) = ⊥
+IsNotBad _ = Unit {0}

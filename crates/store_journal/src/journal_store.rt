@@ -1,8 +1,11 @@
 ghost use Rattle.std.specs.Prelude.{◌≡◌, ◌≢◌, ◌++◌, [], true, false, length, OnOk, IsErrOf};
 ghost use Rattle.ax_types.specs.declared.refusals.StoreError.TheVariants as store_error;
 ghost use Rattle.ax_io.specs.Content as contents;
+ghost use Rattle.spec_reading.specs.Reading as reading;
 ghost use Rattle.spec_node.specs.Saving as saving;
+ghost use Rattle.spec_journal.specs.Journal as journals;
 ghost use Rattle.store_journal.specs.Told as stores;
+ghost use Rattle.store_journal.specs.Kept as keepers;
 ghost use Rattle.store_journal.specs.Journaled as journaled;
 
 use crate::reading::{Journal, read_journal};
@@ -11,6 +14,21 @@ use crate::{Keeper, NodeStore};
 use ax_types::{Entry, KeeperError, Loaded, NodeId, StoreError, Upgraded};
 use std::alloc::Global;
 use std::marker::Model;
+
+/// Keeps the bytes of the whole records alone, of these bytes that are kept.
+fn trim_to<K: Keeper>(keeper: &mut K, bytes: &[u8], whole: u64) -> Result<(), KeeperError>
+    requires told { keepers.AreBytes (K.content keeper.old) (Ok bytes.now) }
+    requires whole { whole ≡ journals.whole (journals.records_of bytes.now) }
+    requires part { (journals.journal_of bytes.now).why ≡ reading.Part }
+    ensures counted { keepers.KeeperCounted (K.faults keeper.old) (K.faults keeper.new) result }
+    ensures read { OnOk result (journaled.IsWholeTold (K.content keeper.new) (journals.counted (journals.records_of bytes.now)) (length (journals.content (journals.records_of bytes.now)).log)) }
+    ensures same { journaled.AreSameRecords (K.content keeper.old) (K.content keeper.new) }
+{
+    if whole < bytes.len() as u64 {
+        return keeper.trim(whole);
+    }
+    Ok(())
+}
 
 /// A store over a keeper of bytes, which are a journal of version 2, or of version 1 where nothing was kept in it since.
 #[derive(Drop)]
@@ -62,9 +80,7 @@ impl<K: Keeper> JournalStore<K> {
         if journal.is_bad {
             return Err(StoreError::Bad { at: journal.whole });
         }
-        if journal.whole < bytes.len() as u64 {
-            self.keeper.trim(journal.whole)?;
-        }
+        trim_to(&mut self.keeper, bytes.as_slice(), journal.whole)?;
         self.counted = journal.left.is_counted();
         self.entries = journal.left.entries();
         self.needs_load = false;
@@ -104,11 +120,13 @@ impl<K: Keeper> JournalStore<K> {
         ensures counted { stores.Counted (K.faults self.old.keeper) (K.faults self.new.keeper) result }
         ensures told { journaled.told_of (K.content self.new.keeper) ≡ journaled.told_of (K.content self.old.keeper) }
         ensures version { OnOk result (journaled.IsCountedTold (K.content self.old.keeper) (K.content self.new.keeper)) }
+        ensures not_bad { journaled.IsNotBad result }
         ensures ready { OnOk result (self.new.needs_load ≡ false) }
         ensures failed { IsErrOf result store_error.Failed → self.new.needs_load ≡ true }
     {
-        let bytes = count_bytes(self.alloc, self.entries)?;
-        self.append(&bytes, self.entries)
+        let entries = self.entries;
+        let bytes = count_bytes(self.alloc, entries)?;
+        self.append(&bytes, entries)
     }
 }
 
@@ -128,13 +146,15 @@ impl<K: Keeper> NodeStore for JournalStore<K> {
     }
 
     fn set_vote(&mut self, term: u64, vote: Option<NodeId>) -> Result<(), StoreError> {
-        let bytes = vote_bytes(self.alloc, self.counted, self.entries, term, vote)?;
-        self.append(&bytes, self.entries)
+        let entries = self.entries;
+        let bytes = vote_bytes(self.alloc, self.counted, entries, term, vote)?;
+        self.append(&bytes, entries)
     }
 
     fn cut(&mut self, last: u64) -> Result<(), StoreError> {
-        let bytes = cut_bytes(self.alloc, self.counted, self.entries, last)?;
-        self.append(&bytes, last.min(self.entries))
+        let entries = self.entries;
+        let bytes = cut_bytes(self.alloc, self.counted, entries, last)?;
+        self.append(&bytes, last.min(entries))
     }
 
     /// Of a call that fails the first entries may be kept. Places beyond their type count as want of memory.

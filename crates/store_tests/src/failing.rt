@@ -1,4 +1,6 @@
 //! Each call of a store in turn fails, and keeps none, half, or all but one of what it was given.
+ghost use Rattle.std.specs.Prelude.{◌≡◌, false, OnOk};
+
 use ax_types::{Body, Entry, List, Loaded, NodeId, StoreError};
 use std::alloc::Global;
 use std::process::Abort;
@@ -25,7 +27,9 @@ fn blanks(alloc: Global, count: u64) -> Result<Vec<Entry>, Fail> {
 }
 
 /// Loads the store, once more after a failure.
-fn loaded<S: NodeStore>(store: &mut S) -> Result<Loaded, StoreError> {
+fn loaded<S: NodeStore>(store: &mut S) -> Result<Loaded, StoreError>
+    ensures { OnOk result (S.needs_load store.new ≡ false) }
+{
     match store.load() {
         Err(StoreError::Failed) => store.load(),
         other => other,
