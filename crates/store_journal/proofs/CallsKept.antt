@@ -1,5 +1,5 @@
 -- What each call of a store appends leaves what the call keeps, and a strict front of it what the call may leave.
-use Rattle.std.proofs.Common.{◌≡◌, ℕ, zero, suc, ◌+◌, ◌<◌, ◌≤◌, List, [], ◌∷◌, ◌++◌, length, take, Bool, true, false, cond, Option, Some, None, Result, Ok, Err, refl, sym, ap, subst, arith, ◌∙◌}
+use Rattle.std.proofs.Common.{◌≡◌, ℕ, ◌+◌, ◌<◌, ◌≤◌, List, [], ◌∷◌, ◌++◌, length, take, Bool, true, false, Option, Some, None, Result, Ok, Err, refl, sym, ap, subst, arith, ◌∙◌}
 use Rattle.std.specs.Prelude.{◌^◌, ◌||◌}
 use Rattle.std.specs.List.{AllByRecursion}
 use Rattle.std.proofs.lemmas.List.{append-nil}
@@ -8,16 +8,14 @@ use Rattle.ax_types.specs.declared.entries.Entry.{Entry}
 use Rattle.ax_types.specs.declared.entries.Loaded.{Loaded}
 use Rattle.ax_types.specs.declared.refusals.StoreError.{StoreError}
 use Rattle.ax_types.specs.declared.refusals.StoreError.TheVariants as store_error
-use Rattle.ax_io.specs.Content as contents
 use Rattle.spec_wire.specs.Ranges as ranges
 use Rattle.spec_reading.specs.Reading as reading
 use Rattle.spec_node.specs.Saving as saving
 use Rattle.spec_journal.specs.Records as journal_records
 use Rattle.spec_journal.specs.Journal as journals
 use Rattle.law_journal.specs.Appends as appends
-use Rattle.law_journal.proofs.CallRecords.{vote_is, cut_is, entries_are, content-more}
+use Rattle.law_journal.proofs.CallRecords.{vote_is, cut_is, entries_are}
 use Rattle.store_journal.specs.Told as stores
-use Rattle.store_journal.specs.Kept as keepers
 use Rattle.store_journal.specs.Journaled as journaled
 use Rattle.store_journal.proofs.Grown.{grown, grown_torn, whole_of, IsBytes-append}
 

@@ -1,5 +1,5 @@
 -- What an append leaves of bytes with nothing behind their whole records.
-use Rattle.std.proofs.Common.{◌≡◌, ℕ, ◌+◌, ◌-◌, ◌<◌, ◌≤◌, List, [], ◌∷◌, ◌++◌, length, take, drop, Bool, true, refl, sym, ap, subst, arith, ◌∙◌, inl, inr}
+use Rattle.std.proofs.Common.{◌≡◌, ℕ, ◌+◌, ◌-◌, ◌<◌, ◌≤◌, List, [], ◌∷◌, ◌++◌, length, take, drop, refl, sym, ap, subst, arith, ◌∙◌, inl, inr}
 use Rattle.std.proofs.lemmas.Bool.{cases_lt}
 use Rattle.std.proofs.lemmas.List.{append-nil, take_at, take-append-drop, length-append, length-drop, get_or_append_left, get_or-append_right}
 use Rattle.spec_reading.specs.Reading as reading
@@ -9,7 +9,6 @@ use Rattle.spec_journal.specs.Journal as journals
 use Rattle.law_journal.specs.Appends as appends
 use Rattle.law_journal.proofs.RecordByRecord.{bytes_are, records_stand, whole_read, whole_read_all}
 use Rattle.law_journal.proofs.Appended.{torn_read}
-use Rattle.store_journal.specs.Journaled as journaled
 
 pub IsBytes-append : (xs ys : List ℕ) → reading.IsBytes xs → reading.IsBytes ys → reading.IsBytes (xs ++ ys)
 IsBytes-append xs ys fx fy i =

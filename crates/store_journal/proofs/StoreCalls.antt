@@ -1,10 +1,11 @@
 -- The calls of a store over a journal, where the keeper's bytes are told and where they are not.
-use Rattle.std.proofs.Common.{◌≡◌, ◌≢◌, ℕ, ◌+◌, ◌-◌, ◌<◌, ◌≤◌, List, [], ◌∷◌, ◌++◌, length, take, min, Bool, true, false, cond, Option, Some, None, Result, Ok, Err, refl, sym, ap, subst, arith, ◌∙◌}
+use Rattle.std.proofs.Common.{◌≡◌, ◌≢◌, ℕ, ◌+◌, ◌<◌, ◌≤◌, List, [], ◌∷◌, ◌++◌, length, min, Bool, true, false, Option, Some, None, Result, Ok, Err, refl, sym, ap, subst, arith, ◌∙◌}
 use Rattle.std.specs.Prelude.{◌^◌}
 use Rattle.std.specs.List.{AllByRecursion}
 use Rattle.std.proofs.lemmas.List.{length-append, length-take}
 use Rattle.std.proofs.lemmas.Grind.{flat_map-append}
 use Rattle.ax_types.specs.declared.entries.Entry.{Entry}
+use Rattle.ax_types.specs.declared.entries.Upgraded.{Upgraded}
 use Rattle.ax_types.specs.declared.refusals.StoreError.{StoreError}
 use Rattle.ax_types.specs.declared.refusals.StoreError.TheVariants as store_error
 use Rattle.ax_io.specs.Content as contents
@@ -112,3 +113,6 @@ upgrade_fails (stores.Bad b) before now store_error.Failed other = tt
 upgrade_fails (stores.Bad b) before now store_error.NoMemory other = tt
 upgrade_fails (stores.Bad b) before now (store_error.Bad at) other = absurd other
 upgrade_fails stores.Untold before now e other = tt
+
+pub upgrade_fails_as : (told : stores.Told) (before now : ℕ) (result : Result Upgraded StoreError) (e : StoreError) → journaled.IsNotBad (Err e) → result ≡ Err e → stores.Upgrades told before now result
+upgrade_fails_as told before now result e other same = subst (stores.Upgrades told before now) (sym same) (upgrade_fails told before now e other)

@@ -1,12 +1,10 @@
 -- Reading the journal of a store, where the keeper's bytes are told and where they are not.
-use Rattle.std.proofs.Common.{◌≡◌, ◌≢◌, ℕ, zero, suc, ◌+◌, ◌-◌, ◌<◌, ◌≤◌, List, [], ◌∷◌, ◌++◌, length, take, Bool, true, false, cond, nat_eq, Option, Some, None, Result, Ok, Err, refl, sym, ap, subst, arith, ◌∙◌}
-use Rattle.std.specs.Prelude.{◌^◌, ◌||◌, OnOk}
+use Rattle.std.proofs.Common.{◌≡◌, ℕ, zero, suc, ◌<◌, ◌≤◌, List, [], ◌∷◌, ◌++◌, length, take, Bool, true, false, cond, Option, Some, None, Result, Ok, Err, refl, sym, ap, subst, arith, ◌∙◌}
+use Rattle.std.specs.Prelude.{◌||◌, OnOk}
 use Rattle.std.proofs.lemmas.Bool.{ne_eqb}
 use Rattle.std.proofs.lemmas.List.{append-nil, length-append}
 use Rattle.std.proofs.lemmas.List.Folds.{list_any-append}
-use Rattle.std.proofs.lemmas.Grind.{flat_map-append}
 use Rattle.ax_types.specs.declared.entries.Loaded.{Loaded}
-use Rattle.ax_types.specs.declared.entries.Upgraded.{Upgraded}
 use Rattle.ax_types.specs.declared.refusals.KeeperError.{KeeperError}
 use Rattle.ax_types.specs.declared.refusals.KeeperError.TheVariants as keeper_error
 use Rattle.ax_types.specs.declared.refusals.StoreError.{StoreError}

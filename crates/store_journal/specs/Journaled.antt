@@ -1,5 +1,5 @@
 -- A store over the bytes of a keeper: what their journal tells, and what the store knows of it after a load.
-use Rattle.std.specs.Prelude.{◌≡◌, ℕ, Bool, true, false, ◌||◌, List, [], ◌∷◌, ◌++◌, length, Option, Some, None, Result, Ok, Err, nat_eq, if◌then◌else◌}
+use Rattle.std.specs.Prelude.{◌≡◌, ℕ, Bool, true, false, List, [], ◌∷◌, length, Option, Some, None, Result, Ok, Err, nat_eq, if◌then◌else◌}
 use Rattle.ax_types.specs.declared.entries.Loaded.{Loaded}
 use Rattle.ax_types.specs.declared.refusals.StoreError.{StoreError}
 use Rattle.ax_types.specs.declared.refusals.StoreError.TheVariants as store_error

@@ -91,9 +91,10 @@ impl<K: Keeper> JournalStore<K> {
     fn append(&mut self, bytes: &[u8], entries: u64) -> Result<(), StoreError>
         requires loaded { self.old.needs_load ≡ false }
         requires some { bytes.now ≢ [] }
-        requires whole { journaled.IsWholeTold (contents.append_told (K.content self.old.keeper) bytes.now) true entries }
+        requires whole { reading.IsBytes bytes.now → journaled.IsWholeTold (contents.append_told (K.content self.old.keeper) bytes.now) true entries }
         ensures counted { stores.Counted (K.faults self.old.keeper) (K.faults self.new.keeper) result }
         ensures appended { journaled.Appended (K.content self.old.keeper) (K.content self.new.keeper) bytes.now result }
+        ensures are_bytes { reading.IsBytes bytes.now }
         ensures ready { OnOk result (self.new.needs_load ≡ false) }
         ensures failed { IsErrOf result store_error.Failed → self.new.needs_load ≡ true }
     {
@@ -125,8 +126,9 @@ impl<K: Keeper> JournalStore<K> {
         ensures failed { IsErrOf result store_error.Failed → self.new.needs_load ≡ true }
     {
         let entries = self.entries;
-        let bytes = count_bytes(self.alloc, entries)?;
-        self.append(&bytes, entries)
+        let out = count_bytes(self.alloc, entries)?;
+        let bytes = out.as_slice();
+        self.append(bytes, entries)
     }
 }
 
@@ -147,14 +149,16 @@ impl<K: Keeper> NodeStore for JournalStore<K> {
 
     fn set_vote(&mut self, term: u64, vote: Option<NodeId>) -> Result<(), StoreError> {
         let entries = self.entries;
-        let bytes = vote_bytes(self.alloc, self.counted, entries, term, vote)?;
-        self.append(&bytes, entries)
+        let out = vote_bytes(self.alloc, self.counted, entries, term, vote)?;
+        let bytes = out.as_slice();
+        self.append(bytes, entries)
     }
 
     fn cut(&mut self, last: u64) -> Result<(), StoreError> {
         let entries = self.entries;
-        let bytes = cut_bytes(self.alloc, self.counted, entries, last)?;
-        self.append(&bytes, last.min(entries))
+        let out = cut_bytes(self.alloc, self.counted, entries, last)?;
+        let bytes = out.as_slice();
+        self.append(bytes, last.min(entries))
     }
 
     /// Of a call that fails the first entries may be kept. Places beyond their type count as want of memory.
@@ -165,8 +169,9 @@ impl<K: Keeper> NodeStore for JournalStore<K> {
         let Some(last) = self.entries.checked_add(entries.len() as u64) else {
             return Err(StoreError::NoMemory);
         };
-        let bytes = add_bytes(self.alloc, self.counted, self.entries, entries)?;
-        self.append(&bytes, last)
+        let out = add_bytes(self.alloc, self.counted, self.entries, entries)?;
+        let bytes = out.as_slice();
+        self.append(bytes, last)
     }
 
     fn upgrade(&mut self) -> Result<Upgraded, StoreError> {

@@ -27,7 +27,7 @@ fn put_count(out: &mut Vec<u8>, entries: u64) -> Result<(), NoMemory>
 
 /// Room for so many bytes, and the record with which an append begins where none of the number of entries stands yet.
 fn begun(alloc: Global, counted: bool, entries: u64, room: usize) -> Result<Vec<u8>, NoMemory>
-    ensures { IfOk result (λ out. out.items ≡ journals.records_bytes (journaled.first_of counted entries)) }
+    ensures bytes { IfOk result (λ out. out.items ≡ journals.records_bytes (journaled.first_of counted entries)) }
 {
     let mut out = Vec::with_capacity(alloc, room)?;
     if !counted {
@@ -66,7 +66,7 @@ pub fn vote_bytes(
 
 /// What cutting the log appends.
 pub fn cut_bytes(alloc: Global, counted: bool, entries: u64, last: u64) -> Result<Vec<u8>, NoMemory>
-    ensures { IfOk result (λ out. out.items ≡ journals.records_bytes (journaled.first_of counted entries ++ journal_records.Cut last ∷ [])) }
+    ensures bytes { IfOk result (λ out. out.items ≡ journals.records_bytes (journaled.first_of counted entries ++ journal_records.Cut last ∷ [])) }
 {
     let mut out = begun(alloc, counted, entries, COUNT_BYTES + VOTE_BYTES)?;
     out.push(0x12)?;
@@ -117,7 +117,7 @@ pub fn add_bytes(
 
 /// What an upgrade of a journal of version 1 appends.
 pub fn count_bytes(alloc: Global, entries: u64) -> Result<Vec<u8>, NoMemory>
-    ensures { IfOk result (λ out. out.items ≡ journals.records_bytes (journal_records.Count entries ∷ [])) }
+    ensures bytes { IfOk result (λ out. out.items ≡ journals.records_bytes (journal_records.Count entries ∷ [])) }
 {
     begun(alloc, false, entries, COUNT_BYTES)
 }
