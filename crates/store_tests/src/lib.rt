@@ -1,7 +1,0 @@
-//! Tests of a store in memory and of a store over a journal.
-#![tactic(auto)]
-
-#[cfg(test)]
-mod failing;
-#[cfg(test)]
-mod journals;
