@@ -80,12 +80,12 @@ add_records_are before e entries room fits =
 
 -- ---- what they keep
 
-told-whole : (bytes : List ℕ) (records : List journal_records.Record) → journals.journal_of bytes ≡ journals.whole_journal records → journaled.told_of (Some bytes) ≡ stores.Content (journals.content records)
-told-whole bytes records e = ap (λ (j : journals.Journal). journaled.told_by (journals.loaded_of j)) e
+told-whole : (bytes : List ℕ) (records : List journal_records.Record) → journals.journal_of bytes ≡ journals.whole_journal records → journaled.journal_told (Some bytes) ≡ stores.Content (journals.content records)
+told-whole bytes records e = ap (λ (j : journals.Journal). journaled.answer_told (journals.loaded_of j)) e
 
 told-torn : (bytes : List ℕ) (records : List journal_records.Record) (torn : List ℕ) → journals.journal_of bytes ≡ record { records = records; rest = torn; why = reading.Part }
-    → journaled.told_of (Some bytes) ≡ stores.Content (journals.content records)
-told-torn bytes records torn e = ap (λ (j : journals.Journal). journaled.told_by (journals.loaded_of j)) e
+    → journaled.journal_told (Some bytes) ≡ stores.Content (journals.content records)
+told-torn bytes records torn e = ap (λ (j : journals.Journal). journaled.answer_told (journals.loaded_of j)) e
 
 -- after the call the bytes are whole
 pub kept_whole : (bytes out : List ℕ) (counted : Bool) (entries count : ℕ) (records : List journal_records.Record) (call : saving.Save)
@@ -109,34 +109,34 @@ left_told kept call told added within e = subst (stores.IsLeftTold kept call) (s
 saves_by : (bytes out : List ℕ) (records : List journal_records.Record) (call : saving.Save) (now : Option (List ℕ)) (result : Result (Unit {0}) StoreError)
     → reading.IsBytes bytes → journals.journal_of bytes ≡ journals.whole_journal (journals.records_of bytes) → AreOf (journals.records_of bytes) records call → reading.IsBytes out → out ≡ journals.records_bytes records
     → journaled.Appended (Some bytes) now out result
-    → stores.Saves call (stores.Content (journals.content (journals.records_of bytes))) (journaled.told_of now) result
+    → stores.Saves call (stores.Content (journals.content (journals.records_of bytes))) (journaled.journal_told now) result
 saves_by bytes out records call now (Ok u) fits whole are fits_out same done =
     let all : journals.journal_of (bytes ++ out) ≡ journals.whole_journal (journals.records_of bytes ++ records) =
     ap (λ (t : List ℕ). journals.journal_of (bytes ++ t)) same ∙ grown bytes records fits whole are.stand (subst reading.IsBytes same fits_out) in
-    ap journaled.told_of done ∙ told-whole (bytes ++ out) (journals.records_of bytes ++ records) all ∙ ap stores.Content are.whole
+    ap journaled.journal_told done ∙ told-whole (bytes ++ out) (journals.records_of bytes ++ records) all ∙ ap stores.Content are.whole
 saves_by bytes out records call now (Err store_error.Failed) fits whole are fits_out same torn =
     let law = grown_torn bytes records torn.count fits whole are.stand (subst reading.IsBytes same fits_out) (subst (λ (t : List ℕ). torn.count < length t) same torn.fewer) in
     let part = are.part law.count law.fewer in
-    left_told (journals.content (journals.records_of bytes)) call (journaled.told_of now) part.added part.within
-    (ap journaled.told_of torn.same
-    ∙ ap (λ (t : List ℕ). journaled.told_of (Some (bytes ++ take torn.count t))) same
+    left_told (journals.content (journals.records_of bytes)) call (journaled.journal_told now) part.added part.within
+    (ap journaled.journal_told torn.same
+    ∙ ap (λ (t : List ℕ). journaled.journal_told (Some (bytes ++ take torn.count t))) same
     ∙ told-torn (bytes ++ take torn.count (journals.records_bytes records)) (journals.records_of bytes ++ take law.count records) law.torn law.is
     ∙ ap stores.Content part.is)
 saves_by bytes out records call now (Err (store_error.Bad at)) fits whole are fits_out same none = none
 saves_by bytes out records call now (Err store_error.NoMemory) fits whole are fits_out same kept =
-    ap journaled.told_of kept ∙ told-whole bytes (journals.records_of bytes) whole
+    ap journaled.journal_told kept ∙ told-whole bytes (journals.records_of bytes) whole
 
 pub call_saves : (bytes out : List ℕ) (counted : Bool) (entries : ℕ) (records : List journal_records.Record) (call : saving.Save) (now : Option (List ℕ)) (result : Result (Unit {0}) StoreError)
     → journaled.IsWhole bytes counted entries → AreOf (journals.records_of bytes) records call → reading.IsBytes out → out ≡ journals.records_bytes records
     → journaled.Appended (Some bytes) now out result
-    → stores.Saves call (journaled.told_of (Some bytes)) (journaled.told_of now) result
+    → stores.Saves call (journaled.journal_told (Some bytes)) (journaled.journal_told now) result
 call_saves bytes out counted entries records call now result is are fits same done =
-    subst (λ (t : stores.Told). stores.Saves call t (journaled.told_of now) result) (sym (told-whole bytes (journals.records_of bytes) is.whole))
+    subst (λ (t : stores.Told). stores.Saves call t (journaled.journal_told now) result) (sym (told-whole bytes (journals.records_of bytes) is.whole))
     (saves_by bytes out records call now result is.are_bytes is.whole are fits same done)
 
 pub untold_saves : (call : saving.Save) (out : List ℕ) (now : Option (List ℕ)) (result : Result (Unit {0}) StoreError) → journaled.Appended None now out result
-    → stores.Saves call stores.Untold (journaled.told_of now) result
-untold_saves call out now (Ok u) done = ap journaled.told_of done
-untold_saves call out now (Err store_error.Failed) torn = ap journaled.told_of torn.same
+    → stores.Saves call stores.Untold (journaled.journal_told now) result
+untold_saves call out now (Ok u) done = ap journaled.journal_told done
+untold_saves call out now (Err store_error.Failed) torn = ap journaled.journal_told torn.same
 untold_saves call out now (Err (store_error.Bad at)) none = none
-untold_saves call out now (Err store_error.NoMemory) kept = ap journaled.told_of kept
+untold_saves call out now (Err store_error.NoMemory) kept = ap journaled.journal_told kept

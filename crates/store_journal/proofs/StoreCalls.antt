@@ -43,7 +43,7 @@ by_known bytes counted entries f is =
 -- a call appends what is known: this many entries are kept then
 pub record Appends (content : Option (List ℕ)) (counted : Bool) (entries : ℕ) (call : saving.Save) (count : ℕ) (out : List ℕ) : Type 0 where
   pub whole : journaled.IsWholeTold (contents.append_told content out) true count
-  pub saves : (now : Option (List ℕ)) (result : Result (Unit {0}) StoreError) → journaled.Appended content now out result → stores.Saves call (journaled.told_of content) (journaled.told_of now) result
+  pub saves : (now : Option (List ℕ)) (result : Result (Unit {0}) StoreError) → journaled.Appended content now out result → stores.Saves call (journaled.journal_told content) (journaled.journal_told now) result
 
 untold : (counted : Bool) (entries : ℕ) (call : saving.Save) (count : ℕ) (out : List ℕ) → Appends None counted entries call count out
 untold counted entries call count out = record { whole = tt; saves = untold_saves call out }

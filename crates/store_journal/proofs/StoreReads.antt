@@ -32,9 +32,9 @@ same_again before now e = subst (journaled.AreSameRecords before) (sym e) (itsel
     itself (Some bytes) = (refl, refl)
 
 told_by_parts : List journal_records.Record → reading.Fault → stores.Told
-told_by_parts records why = journaled.told_by (journals.loaded_of (record { records = records; rest = []; why = why }))
+told_by_parts records why = journaled.answer_told (journals.loaded_of (record { records = records; rest = []; why = why }))
 
-pub same_told : (before now : Option (List ℕ)) → journaled.AreSameRecords before now → journaled.told_of now ≡ journaled.told_of before
+pub same_told : (before now : Option (List ℕ)) → journaled.AreSameRecords before now → journaled.journal_told now ≡ journaled.journal_told before
 unfolding told_by_parts
 same_told None None same = refl
 same_told None (Some now) same = absurd same
@@ -97,18 +97,18 @@ trims_whole before now bytes whole (Err keeper_error.NoMemory) are fits part is 
 
 -- ---- what loading answers
 
-told-part : (bytes : List ℕ) → (journals.journal_of bytes).why ≡ reading.Part → journaled.told_of (Some bytes) ≡ stores.Content (journals.content (journals.records_of bytes))
+told-part : (bytes : List ℕ) → (journals.journal_of bytes).why ≡ reading.Part → journaled.journal_told (Some bytes) ≡ stores.Content (journals.content (journals.records_of bytes))
 unfolding told_by_parts
 told-part bytes part = ap (told_by_parts (journals.records_of bytes)) part
 
-told-wrong : (bytes : List ℕ) → (journals.journal_of bytes).why ≡ reading.Wrong → journaled.told_of (Some bytes) ≡ stores.Bad (journals.whole (journals.records_of bytes))
+told-wrong : (bytes : List ℕ) → (journals.journal_of bytes).why ≡ reading.Wrong → journaled.journal_told (Some bytes) ≡ stores.Bad (journals.whole (journals.records_of bytes))
 unfolding told_by_parts
 told-wrong bytes wrong = ap (told_by_parts (journals.records_of bytes)) wrong
 
-pub loads_content : (bytes : List ℕ) (loaded : Loaded) → (journals.journal_of bytes).why ≡ reading.Part → loaded ≡ journals.content (journals.records_of bytes) → stores.IsLoaded (journaled.told_of (Some bytes)) (Ok loaded)
+pub loads_content : (bytes : List ℕ) (loaded : Loaded) → (journals.journal_of bytes).why ≡ reading.Part → loaded ≡ journals.content (journals.records_of bytes) → stores.IsLoaded (journaled.journal_told (Some bytes)) (Ok loaded)
 loads_content bytes loaded part same = subst (λ (t : stores.Told). stores.IsLoaded t (Ok loaded)) (sym (told-part bytes part)) same
 
-pub loads_bad : (bytes : List ℕ) (at : ℕ) → (journals.journal_of bytes).why ≡ reading.Wrong → at ≡ journals.whole (journals.records_of bytes) → stores.IsLoaded (journaled.told_of (Some bytes)) (Err (store_error.Bad at))
+pub loads_bad : (bytes : List ℕ) (at : ℕ) → (journals.journal_of bytes).why ≡ reading.Wrong → at ≡ journals.whole (journals.records_of bytes) → stores.IsLoaded (journaled.journal_told (Some bytes)) (Err (store_error.Bad at))
 loads_bad bytes at wrong same = subst (λ (t : stores.Told). stores.IsLoaded t (Err (store_error.Bad at))) (sym (told-wrong bytes wrong)) same
 
 pub loads_none : (told : stores.Told) (e : StoreError) → ((at : ℕ) → e ≡ store_error.Bad at → ⊥) → stores.IsLoaded told (Err e)
@@ -156,8 +156,8 @@ count_keeps_whole (Some bytes) out counted entries is plain room fits same =
     }
 
 told-end : (bytes : List ℕ) (records : List journal_records.Record) (rest : List ℕ) → journals.journal_of bytes ≡ record { records = records; rest = rest; why = reading.Part }
-    → journaled.told_of (Some bytes) ≡ stores.Content (journals.content records)
-told-end bytes records rest e = ap (λ (j : journals.Journal). journaled.told_by (journals.loaded_of j)) e
+    → journaled.journal_told (Some bytes) ≡ stores.Content (journals.content records)
+told-end bytes records rest e = ap (λ (j : journals.Journal). journaled.answer_told (journals.loaded_of j)) e
 
 -- a strict front of one record leaves none
 none_of_one : (records : List journal_records.Record) (r : journal_records.Record) (count : ℕ) → count < 1 → journals.content (records ++ take count (r ∷ [])) ≡ journals.content records
@@ -165,25 +165,25 @@ none_of_one records r zero lt = ap journals.content (append-nil records)
 none_of_one records r (suc n) lt = absurd (omega arith)
 
 pub count_tells : (content now : Option (List ℕ)) (out : List ℕ) (counted : Bool) (entries : ℕ) (result : Result (Unit {0}) StoreError) → journaled.IsWholeTold content counted entries → journaled.IsPlainTold content → ranges.IsNumber entries → reading.IsBytes out
-    → out ≡ journals.records_bytes (journal_records.Count entries ∷ []) → journaled.Appended content now out result → journaled.told_of now ≡ journaled.told_of content
-count_tells None now out counted entries (Ok u) is plain room fits same done = ap journaled.told_of done
-count_tells None now out counted entries (Err store_error.Failed) is plain room fits same torn = ap journaled.told_of torn.same
+    → out ≡ journals.records_bytes (journal_records.Count entries ∷ []) → journaled.Appended content now out result → journaled.journal_told now ≡ journaled.journal_told content
+count_tells None now out counted entries (Ok u) is plain room fits same done = ap journaled.journal_told done
+count_tells None now out counted entries (Err store_error.Failed) is plain room fits same torn = ap journaled.journal_told torn.same
 count_tells None now out counted entries (Err (store_error.Bad at)) is plain room fits same none = absurd none
-count_tells None now out counted entries (Err store_error.NoMemory) is plain room fits same kept = ap journaled.told_of kept
+count_tells None now out counted entries (Err store_error.NoMemory) is plain room fits same kept = ap journaled.journal_told kept
 count_tells (Some bytes) now out counted entries (Ok u) is plain room fits same done =
-    ap journaled.told_of done
+    ap journaled.journal_told done
     ∙ told-end (bytes ++ out) (journals.records_of bytes ++ journal_records.Count entries ∷ []) [] (count_whole bytes out counted entries is plain room fits same)
     ∙ ap stores.Content (content-more (journals.records_of bytes) (journal_records.Count entries ∷ []))
     ∙ sym (told-end bytes (journals.records_of bytes) [] is.whole)
 count_tells (Some bytes) now out counted entries (Err store_error.Failed) is plain room fits same torn =
     let law = grown_torn bytes (journal_records.Count entries ∷ []) torn.count is.are_bytes is.whole (count_stands bytes counted entries is plain room) (subst reading.IsBytes same fits) (subst (λ (t : List ℕ). torn.count < length t) same torn.fewer) in
-    ap journaled.told_of torn.same
-    ∙ ap (λ (t : List ℕ). journaled.told_of (Some (bytes ++ take torn.count t))) same
+    ap journaled.journal_told torn.same
+    ∙ ap (λ (t : List ℕ). journaled.journal_told (Some (bytes ++ take torn.count t))) same
     ∙ told-end (bytes ++ take torn.count (journals.records_bytes (journal_records.Count entries ∷ []))) (journals.records_of bytes ++ take law.count (journal_records.Count entries ∷ [])) law.torn law.is
     ∙ ap stores.Content (none_of_one (journals.records_of bytes) (journal_records.Count entries) law.count law.fewer)
     ∙ sym (told-end bytes (journals.records_of bytes) [] is.whole)
 count_tells (Some bytes) now out counted entries (Err (store_error.Bad at)) is plain room fits same none = absurd none
-count_tells (Some bytes) now out counted entries (Err store_error.NoMemory) is plain room fits same kept = ap journaled.told_of kept
+count_tells (Some bytes) now out counted entries (Err store_error.NoMemory) is plain room fits same kept = ap journaled.journal_told kept
 
 pub count_is_counted : (content now : Option (List ℕ)) (out : List ℕ) (counted : Bool) (entries : ℕ) → journaled.IsWholeTold content counted entries → journaled.IsPlainTold content → ranges.IsNumber entries → reading.IsBytes out
     → out ≡ journals.records_bytes (journal_records.Count entries ∷ []) → now ≡ contents.append_told content out → journaled.IsCountedTold content now

@@ -23,14 +23,14 @@ pub record Journaled (K : Type 0) : Type 0 where
 
 -- ---- what is told
 
-abbrev pub told_by : Result Loaded ℕ → stores.Told
-told_by (Ok content) = stores.Content content
-told_by (Err at) = stores.Bad at
+abbrev pub answer_told : Result Loaded ℕ → stores.Told
+answer_told (Ok content) = stores.Content content
+answer_told (Err at) = stores.Bad at
 
 -- what the journal of the keeper's bytes tells, where these are told
-abbrev pub told_of : Option (List ℕ) → stores.Told
-told_of None = stores.Untold
-told_of (Some bytes) = told_by (journals.loaded_of (journals.journal_of bytes))
+abbrev pub journal_told : Option (List ℕ) → stores.Told
+journal_told None = stores.Untold
+journal_told (Some bytes) = answer_told (journals.loaded_of (journals.journal_of bytes))
 
 abbrev pub version_told : Option (List ℕ) → ℕ
 version_told None = 0
@@ -94,7 +94,7 @@ Appended before now bytes (Err store_error.NoMemory) = now ≡ before
 
 -- it is the one of these bytes, and no bad byte stands behind its records
 pub record IsReadJournal (bytes : List ℕ) (j : Journal) : Type 0 where
-  pub left : j.left ≡ left_by.left_by (journals.records_of bytes)
+  pub left : j.left ≡ left_by.left_of (journals.records_of bytes)
   pub whole : j.whole ≡ journals.whole (journals.records_of bytes)
   pub part : (journals.journal_of bytes).why ≡ reading.Part
 

@@ -8,8 +8,8 @@ pub record Left : Type 0 where
   pub content : Loaded
   pub counted : Bool
 
-abbrev pub left_by : List journal_records.Record → Left
-left_by records = record { content = journals.content records; counted = journals.counted records }
+abbrev pub left_of : List journal_records.Record → Left
+left_of records = record { content = journals.content records; counted = journals.counted records }
 
-abbrev pub left_after : Left → journal_records.Record → Left
-left_after left r = record { content = journals.after_record left.content r; counted = left.counted || journals.is_count r }
+abbrev pub left_then : Left → journal_records.Record → Left
+left_then left r = record { content = journals.after_record left.content r; counted = left.counted || journals.is_count r }

@@ -119,7 +119,7 @@ impl<K: Keeper> JournalStore<K> {
         requires loaded { self.old.needs_load ≡ false }
         requires plain { journaled.IsPlainTold (K.content self.old.keeper) }
         ensures counted { stores.Counted (K.faults self.old.keeper) (K.faults self.new.keeper) result }
-        ensures told { journaled.told_of (K.content self.new.keeper) ≡ journaled.told_of (K.content self.old.keeper) }
+        ensures told { journaled.journal_told (K.content self.new.keeper) ≡ journaled.journal_told (K.content self.old.keeper) }
         ensures version { OnOk result (journaled.IsCountedTold (K.content self.old.keeper) (K.content self.new.keeper)) }
         ensures not_bad { journaled.IsNotBad result }
         ensures ready { OnOk result (self.new.needs_load ≡ false) }
@@ -137,7 +137,7 @@ impl<K: Keeper> NodeStore for JournalStore<K> {
 
     ghost faults = { λ s. K.faults s.keeper };
 
-    ghost told = { λ s. journaled.told_of (K.content s.keeper) };
+    ghost told = { λ s. journaled.journal_told (K.content s.keeper) };
 
     ghost version = { λ s. journaled.version_told (K.content s.keeper) };
 

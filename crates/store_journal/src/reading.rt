@@ -30,7 +30,7 @@ impl Model for Left {
 impl Left {
     /// What no record leaves.
     fn nothing(alloc: Global) -> Left
-        ensures { result ≡ left_by.left_by [] }
+        ensures { result ≡ left_by.left_of [] }
     {
         Left {
             term: 0,
@@ -57,7 +57,7 @@ impl Left {
 
     /// One record more.
     fn take(&mut self, next: Record) -> Result<(), NoMemory>
-        ensures { OnOk result (self.new ≡ left_by.left_after self.old (journaled.record_of next)) }
+        ensures { OnOk result (self.new ≡ left_by.left_then self.old (journaled.record_of next)) }
     {
         match next {
             Record::Vote { term, vote } => {
@@ -110,7 +110,7 @@ impl Journal {
 
 /// The journal of these bytes.
 pub fn read_journal(alloc: Global, bytes: &[u8]) -> Result<Journal, NoMemory>
-    ensures left { IfOk result (λ j. j.left ≡ left_by.left_by (journals.records_of bytes.now)) }
+    ensures left { IfOk result (λ j. j.left ≡ left_by.left_of (journals.records_of bytes.now)) }
     ensures whole { IfOk result (λ j. j.whole ≡ journals.whole (journals.records_of bytes.now)) }
     ensures bad { IfOk result (λ j. j.is_bad ≡ journaled.is_wrong (journals.journal_of bytes.now).why) }
 {
