@@ -1,3 +1,5 @@
 pub mod StoreTold
 pub mod KeeperTold
 pub mod MemStores
+pub mod LeftBy
+pub mod Journaled

@@ -1,0 +1,6 @@
+mod PlacedSoFar
+mod RecordsSoFar
+mod Grown
+mod CallsKept
+mod StoreCalls
+mod StoreReads
