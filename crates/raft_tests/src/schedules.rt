@@ -115,58 +115,55 @@ fn flush(world: &mut RaftWorld) -> Result<(), Fail>
     Ok(())
 }
 
+/// What a node is asked by its number.
+fn election(number: u8) -> Result<NodeInput, Fail> {
+    let node = node(number)?;
+    Ok(NodeInput::Elect { node, clock: 0 })
+}
+
+fn round(number: u8) -> Result<NodeInput, Fail> {
+    let node = node(number)?;
+    Ok(NodeInput::Beat { node })
+}
+
+fn crash(number: u8) -> Result<NodeInput, Fail> {
+    let node = node(number)?;
+    Ok(NodeInput::Crash { node })
+}
+
+fn start(number: u8) -> Result<NodeInput, Fail> {
+    let node = node(number)?;
+    Ok(NodeInput::Start { node })
+}
+
+/// The last packet that waits from one node to another is delivered.
+fn last_delivery(alloc: Global, world: &RaftWorld, from: u8, to: u8) -> Result<NodeInput, Fail> {
+    let number = *waiting(alloc, world, from, to)?.last().ok_or("no packet")?;
+    Ok(NodeInput::Deliver { number, clock: 0 })
+}
+
 /// One thing happens.
-pub fn happen(alloc: Global, world: &mut RaftWorld, next: Do) -> Result<(), Fail>
+fn happen(alloc: Global, world: &mut RaftWorld, next: Do) -> Result<(), Fail>
     requires { world.old.is_spent ≡ false }
     ensures { OnOk result (world.new.is_spent ≡ false) }
 {
     match next {
-        Do::Elect(number) => make(
-            world,
-            NodeInput::Elect {
-                node: node(number)?,
-                clock: 0,
-            },
-        ),
-        Do::Beat(number) => make(
-            world,
-            NodeInput::Beat {
-                node: node(number)?,
-            },
-        ),
+        Do::Elect(number) => make(world, election(number)?),
+        Do::Beat(number) => make(world, round(number)?),
         Do::Append(number, first, count) => make(world, appended(alloc, number, first, count)?),
         Do::Pass(from, to) => {
             let numbers = waiting(alloc, world, from, to)?;
             deliver(world, &numbers)
         }
         Do::Flush => flush(world),
-        Do::Crash(number) => make(
-            world,
-            NodeInput::Crash {
-                node: node(number)?,
-            },
-        ),
-        Do::Start(number) => make(
-            world,
-            NodeInput::Start {
-                node: node(number)?,
-            },
-        ),
-        Do::HaltElect(number, saved) => halt(
-            world,
-            NodeInput::Elect {
-                node: node(number)?,
-                clock: 0,
-            },
-            saved,
-            0,
-        ),
+        Do::Crash(number) => make(world, crash(number)?),
+        Do::Start(number) => make(world, start(number)?),
+        Do::HaltElect(number, saved) => halt(world, election(number)?, saved, 0),
         Do::HaltAppend(number, first, count, saved, added) => {
             halt(world, appended(alloc, number, first, count)?, saved, added)
         }
         Do::HaltPass(from, to, saved, added) => {
-            let number = *waiting(alloc, world, from, to)?.last().ok_or("no packet")?;
-            halt(world, NodeInput::Deliver { number, clock: 0 }, saved, added)
+            halt(world, last_delivery(alloc, world, from, to)?, saved, added)
         }
     }
 }

@@ -38,32 +38,58 @@ fn called(alloc: Global) -> Result<Item, Fail> {
     })
 }
 
-#[test]
-fn items_have_lines(rt: HostRuntime) -> Result<(), Fail> {
-    let alloc = rt.alloc();
+fn reach() -> Result<Item, Fail> {
     let node = NodeId::new(9).ok_or("no node")?;
-    let client = ClientId::new(16).ok_or("no client")?;
-    let mut text = Printout::new(alloc);
-    text.write_item(&Item::Reach {
+    Ok(Item::Reach {
         node,
         term: 2,
         arrival: 3,
         session: 4,
         number: 5,
-    })?;
-    text.write_item(&Item::Pending {
+    })
+}
+
+fn pending() -> Result<Item, Fail> {
+    let node = NodeId::new(9).ok_or("no node")?;
+    let client = ClientId::new(16).ok_or("no client")?;
+    Ok(Item::Pending {
         number: 6,
         from: End::Client(client),
         to: End::Node(node),
         kind: PayloadKind::Keep,
-    })?;
-    text.write_item(&Item::Skip {
-        reason: SkipReason::Busy { unanswered: 1 },
-    })?;
+    })
+}
+
+/// The line of an item.
+fn line(alloc: Global, item: &Item) -> Result<String, Fail> {
+    let mut text = Printout::new(alloc);
+    text.write_item(item)?;
+    Ok(text.into_string())
+}
+
+#[test]
+fn a_reach_has_a_line(rt: HostRuntime) -> Result<(), Fail> {
+    let reach = reach()?;
+    assert_eq!(rt; line(rt.alloc(), &reach)?.as_str(), "reach 9 2.3 4 5\n");
+    Ok(())
+}
+
+#[test]
+fn a_packet_has_a_line(rt: HostRuntime) -> Result<(), Fail> {
+    let pending = pending()?;
     assert_eq!(rt;
-        text.into_string().as_str(),
-        "reach 9 2.3 4 5\npending 6 c16 n9 Keep\nskip busy 1\n"
+        line(rt.alloc(), &pending)?.as_str(),
+        "pending 6 c16 n9 Keep\n"
     );
+    Ok(())
+}
+
+#[test]
+fn a_skip_has_a_line(rt: HostRuntime) -> Result<(), Fail> {
+    let skip = Item::Skip {
+        reason: SkipReason::Busy { unanswered: 1 },
+    };
+    assert_eq!(rt; line(rt.alloc(), &skip)?.as_str(), "skip busy 1\n");
     Ok(())
 }
 
