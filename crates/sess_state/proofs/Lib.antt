@@ -1,0 +1,4 @@
+pub mod BoxAt
+pub mod InTurn
+pub mod SortedTold
+pub mod BelowNext
