@@ -33,11 +33,11 @@ all_push P (x ∷ xs) y all one = (all.0, all_push P xs y all.1 one)
 
 all_filter : {X : Type 0} (P : X → Type 0) (p : X → Bool) (xs : List X) → AllByRecursion P xs → AllByRecursion P (filter p xs)
 all_filter P p [] all = tt
-all_filter {X} P p (x ∷ xs) all = by_test (p x)
+all_filter P p (x ∷ xs) all = by_test (p x) (all_filter P p xs all.1)
   where
-    by_test : (b : Bool) → AllByRecursion P (cond b (x ∷ filter p xs) (filter p xs))
-    by_test true = (all.0, all_filter P p xs all.1)
-    by_test false = all_filter P p xs all.1
+    by_test : (b : Bool) → AllByRecursion P (filter p xs) → AllByRecursion P (cond b (x ∷ filter p xs) (filter p xs))
+    by_test true rest = (all.0, rest)
+    by_test false rest = rest
 
 all_map : {X : Type 0} (P : X → Type 0) (f : X → X) → ((x : X) → P x → P (f x)) → (xs : List X) → AllByRecursion P xs → AllByRecursion P (map f xs)
 all_map P f keeps [] all = tt
@@ -49,11 +49,12 @@ next_less m n lt = omega arith
 -- a live session is one of the live ones
 live_below : (session place : ℕ) (live : List tables.Live) → AllByRecursion (λ l. l.session < place) live → is_some (find (λ (l : tables.Live). nat_eq l.session session) live) ≡ true → session < place
 live_below session place [] all found = cc
-live_below session place (l ∷ live) all found = by_test (nat_eq l.session session) refl found
+live_below session place (l ∷ live) all found = by_test (nat_eq l.session session) refl found (live_below session place live all.1)
   where
-    by_test : (b : Bool) → nat_eq l.session session ≡ b → is_some (cond b (Some l) (find (λ (l : tables.Live). nat_eq l.session session) live)) ≡ true → session < place
-    by_test true e found = let same : l.session ≡ session = grind (arith, nat_tests) in subst (λ (n : ℕ). n < place) same all.0
-    by_test false e found = live_below session place live all.1 found
+    by_test : (b : Bool) → nat_eq l.session session ≡ b → is_some (cond b (Some l) (find (λ (l : tables.Live). nat_eq l.session session) live)) ≡ true
+        → (is_some (find (λ (l : tables.Live). nat_eq l.session session) live) ≡ true → session < place) → session < place
+    by_test true e found rest = let same : l.session ≡ session = grind (arith, nat_tests) in subst (λ (n : ℕ). n < place) same all.0
+    by_test false e found rest = rest found
 
 live_found : (x : Option tables.Live) (y : Option tables.PastSession) → tables.state_with x y ≡ state.Live → is_some x ≡ true
 live_found (Some l) y e = refl
@@ -126,14 +127,14 @@ record FitNext (place : ℕ) (t : tables.Table) (boxes : List outboxes.Outbox) :
   pub sessions : AllByRecursion (SessionBelow (suc place)) boxes
   pub batches : AllByRecursion (BatchBelow place) boxes
 
-fit_same : (place : ℕ) (t : tables.Table) (boxes : List outboxes.Outbox) → session_parts.AreBelow place t boxes → FitNext place t boxes
+fit_same : (place : ℕ) (t : tables.Table) (boxes : List outboxes.Outbox) → session_parts.LieBelow place t boxes → FitNext place t boxes
 fit_same place t boxes below = record {
   table = new_later t place below.table;
   sessions = all_weaker (SessionBelow place) (SessionBelow (suc place)) (λ o lt. next_less o.session place lt) boxes below.sessions;
   batches = below.batches;
 }
 
-fit_ending : (place session : ℕ) (h : How) (t : tables.Table) (boxes : List outboxes.Outbox) → session < place → session_parts.AreBelow place t boxes
+fit_ending : (place session : ℕ) (h : How) (t : tables.Table) (boxes : List outboxes.Outbox) → session < place → session_parts.LieBelow place t boxes
     → FitNext place (tables.finished t session place h) (outboxes.without_outbox boxes session)
 fit_ending place session h t boxes less below = record {
   table = new_later (tables.finished t session place h) place (new_finished t place place session h less below.table);
@@ -145,7 +146,7 @@ abbrev Fits : ℕ → session_states.Effect → Type 0
 Fits place e = FitNext place e.table e.boxes
 
 abbrev Below : ℕ → session_states.Sessions → Type 0
-Below place s = session_parts.AreBelow place s.table s.boxes
+Below place s = session_parts.LieBelow place s.table s.boxes
 
 fit_end : (place session : ℕ) (s : session_states.Sessions) (x : SessionState) → Below place s → Fits place (session_states.told_end s session x)
 fit_end place session s state.Unknown below = fit_same place s.table s.boxes below
@@ -214,7 +215,7 @@ fit_effect place time (body.Close client session) s positive below = fit_closing
 fit_effect place time (body.Expire session) s positive below = fit_expiring place time session s below
 
 -- no batch of the outboxes after an entry is of its place
-pub earlier_batches : (place time : ℕ) (b : Body) (s : session_states.Sessions) → 0 < place → session_parts.AreBelow place s.table s.boxes
+pub earlier_batches : (place time : ℕ) (b : Body) (s : session_states.Sessions) → 0 < place → session_parts.LieBelow place s.table s.boxes
     → AllByRecursion (λ (o : outboxes.Outbox). o.batches.last < place) (session_states.effect s place time b).boxes
 earlier_batches place time b s positive below = (fit_effect place time b s positive below).batches
 
@@ -241,8 +242,8 @@ kept_boxes P keeps boxes place None r all = all
 kept_boxes P keeps boxes place (Some c) r all =
     change_keeps P (outboxes.with_reply (session_states.cached_reply place boxes c r)) c.0 (keeps (session_states.cached_reply place boxes c r)) boxes all
 
-pub below_next : (place time : ℕ) (b : Body) (s : session_states.Sessions) (told : List (ℕ × Event)) (r : Reply) → 0 < place → session_parts.AreBelow place s.table s.boxes
-    → (let e = session_states.effect s place time b in session_parts.AreBelow (suc place) e.table (session_states.boxes_with (outboxes.all_told place told e.boxes) place e.command r))
+pub below_next : (place time : ℕ) (b : Body) (s : session_states.Sessions) (told : List (ℕ × Event)) (r : Reply) → 0 < place → session_parts.LieBelow place s.table s.boxes
+    → (let e = session_states.effect s place time b in session_parts.LieBelow (suc place) e.table (session_states.boxes_with (outboxes.all_told place told e.boxes) place e.command r))
 below_next place time b s told r positive below =
     let e : session_states.Effect = session_states.effect s place time b in
     let fits : FitNext place e.table e.boxes = fit_effect place time b s positive below in record {
@@ -254,20 +255,17 @@ below_next place time b s told r positive below =
 -- the command that an entry carries out is the next one of its session
 told_last : (place session : ℕ) (told : List (ℕ × Event)) (boxes : List outboxes.Outbox) → outboxes.last_seq (outboxes.all_told place told boxes) session ≡ outboxes.last_seq boxes session
 told_last place session told [] = refl
-told_last place session told (o ∷ boxes) = by_events (outboxes.told_to o.session told)
+told_last place session told (o ∷ boxes) = by_events (outboxes.told_to o.session told) (told_last place session told boxes)
   where
-    by_events : (es : List Event) → outboxes.last_seq (outboxes.box_with place es o ∷ outboxes.all_told place told boxes) session ≡ outboxes.last_seq (o ∷ boxes) session
-    by_events [] = by_test (nat_eq o.session session)
-      where
-        by_test : (b : Bool) → outboxes.last_seq_in (cond b (Some o) (outboxes.outbox_of (outboxes.all_told place told boxes) session)) ≡ outboxes.last_seq_in (cond b (Some o) (outboxes.outbox_of boxes session))
-        by_test true = refl
-        by_test false = told_last place session told boxes
-    by_events (e ∷ es) = by_test (nat_eq o.session session)
-      where
-        by_test : (b : Bool) → outboxes.last_seq_in (cond b (Some (outboxes.box_with place (e ∷ es) o)) (outboxes.outbox_of (outboxes.all_told place told boxes) session))
-            ≡ outboxes.last_seq_in (cond b (Some o) (outboxes.outbox_of boxes session))
-        by_test true = refl
-        by_test false = told_last place session told boxes
+    by_test : (b : Bool) (p q : outboxes.Outbox) → p.cache.last ≡ q.cache.last → outboxes.last_seq (outboxes.all_told place told boxes) session ≡ outboxes.last_seq boxes session
+        → outboxes.last_seq_in (cond b (Some p) (outboxes.outbox_of (outboxes.all_told place told boxes) session)) ≡ outboxes.last_seq_in (cond b (Some q) (outboxes.outbox_of boxes session))
+    by_test true p q same rest = same
+    by_test false p q same rest = rest
+
+    by_events : (es : List Event) → outboxes.last_seq (outboxes.all_told place told boxes) session ≡ outboxes.last_seq boxes session
+        → outboxes.last_seq (outboxes.box_with place es o ∷ outboxes.all_told place told boxes) session ≡ outboxes.last_seq (o ∷ boxes) session
+    by_events [] rest = by_test (nat_eq o.session session) o o refl rest
+    by_events (e ∷ es) rest = by_test (nat_eq o.session session) (outboxes.box_with place (e ∷ es) o) o refl rest
 
 abbrev IsNext : ℕ → List (ℕ × Event) → session_states.Effect → Type 0
 IsNext place told e = IfSome e.command (λ c. c.1 ≡ outboxes.last_seq (outboxes.all_told place told e.boxes) c.0 + 1)

@@ -1,8 +1,9 @@
 -- Sessions that are told in turn, the lowest first, are told all at once.
-use Rattle.std.proofs.Common.{◌≡◌, ℕ, zero, suc, ◌+◌, ◌<◌, ◌≤◌, ◌∙◌, refl, sym, ap, subst, arith, Bool, true, false, not, cond, nat_eq, nat_lt, length, List, [], ◌∷◌, ◌++◌, map, filter, Option, Some, None}
+use Rattle.std.proofs.Common.{append_assoc, ◌≡◌, ℕ, zero, suc, ◌+◌, ◌<◌, ◌≤◌, ◌∙◌, refl, sym, ap, subst, arith, Bool, true, false, not, cond, nat_eq, nat_lt, length, List, [], ◌∷◌, ◌++◌, map, filter, Option, Some, None}
 use Rattle.std.specs.Prelude.{find, if◌then◌else◌}
 use Rattle.std.specs.List.{AllByRecursion}
 use Rattle.std.proofs.lemmas.Bool.{ltb-true, ltb-false}
+use Rattle.std.proofs.lemmas.List.{append-nil}
 use Rattle.std.proofs.lemmas.Bool.Decides.{nat_tests}
 use Rattle.ax_types.specs.declared.entries.Batch.{Batch}
 use Rattle.ax_types.specs.declared.replies.Event.{Event}
@@ -37,33 +38,33 @@ none_told session (t ∷ told) above = rw (above_apart session t.0 above.0) (non
 -- what is beyond the first session's events
 beyond_above : (session : ℕ) (told : Told) → ToldFrom session told → batching.RiseBySession told → ToldAbove session (batching.beyond session told)
 beyond_above session [] from rise = tt
-beyond_above session (t ∷ told) from rise = by_test (nat_eq t.0 session) refl
+beyond_above session (t ∷ told) from rise = by_test (nat_eq t.0 session) refl (beyond_above session told from.1 rise.1)
   where
-    by_test : (b : Bool) → nat_eq t.0 session ≡ b → ToldAbove session (if b then batching.beyond session told else t ∷ told)
-    by_test true e = beyond_above session told from.1 rise.1
-    by_test false e =
+    by_test : (b : Bool) → nat_eq t.0 session ≡ b → ToldAbove session (batching.beyond session told) → ToldAbove session (if b then batching.beyond session told else t ∷ told)
+    by_test true e rest = rest
+    by_test false e rest =
         let first : session < t.0 = apart_above session t.0 from.0 e in
         (first, above_from session t.0 told first rise.0)
 
 pub beyond_rise : (session : ℕ) (told : Told) → batching.RiseBySession told → batching.RiseBySession (batching.beyond session told)
 beyond_rise session [] rise = tt
-beyond_rise session (t ∷ told) rise = by_test (nat_eq t.0 session)
+beyond_rise session (t ∷ told) rise = by_test (nat_eq t.0 session) (beyond_rise session told rise.1)
   where
-    by_test : (b : Bool) → batching.RiseBySession (if b then batching.beyond session told else t ∷ told)
-    by_test true = beyond_rise session told rise.1
-    by_test false = rise
+    by_test : (b : Bool) → batching.RiseBySession (batching.beyond session told) → batching.RiseBySession (if b then batching.beyond session told else t ∷ told)
+    by_test true rest = rest
+    by_test false rest = rise
 
 beyond_all : (P : ℕ × Event → Type 0) (session : ℕ) (told : Told) → AllByRecursion P told → AllByRecursion P (batching.beyond session told)
 beyond_all P session [] all = tt
-beyond_all P session (t ∷ told) all = by_test (nat_eq t.0 session)
+beyond_all P session (t ∷ told) all = by_test (nat_eq t.0 session) (beyond_all P session told all.1)
   where
-    by_test : (b : Bool) → AllByRecursion P (if b then batching.beyond session told else t ∷ told)
-    by_test true = beyond_all P session told all.1
-    by_test false = all
+    by_test : (b : Bool) → AllByRecursion P (batching.beyond session told) → AllByRecursion P (if b then batching.beyond session told else t ∷ told)
+    by_test true rest = rest
+    by_test false rest = all
 
 told_beyond : (session other : ℕ) (told : Told) → nat_eq other session ≡ false → outboxes.told_to other (batching.beyond session told) ≡ outboxes.told_to other told
 told_beyond session other [] apart = refl
-told_beyond session other (t ∷ told) apart = by_test (nat_eq t.0 session) refl
+told_beyond session other (t ∷ told) apart = by_test (nat_eq t.0 session) refl (told_beyond session other told apart)
   where
     another : nat_eq t.0 session ≡ true → nat_eq t.0 other ≡ false
     another e = by_other (nat_eq t.0 other) refl
@@ -72,22 +73,26 @@ told_beyond session other (t ∷ told) apart = by_test (nat_eq t.0 session) refl
         by_other true is = absurd (let here : t.0 ≡ session = number_same session t.0 e in let there : t.0 ≡ other = number_same other t.0 is in let again : nat_eq other session ≡ true = same_number session other (sym there ∙ here) in cc)
         by_other false is = refl
 
-    by_test : (b : Bool) → nat_eq t.0 session ≡ b → outboxes.told_to other (if b then batching.beyond session told else t ∷ told) ≡ outboxes.told_to other (t ∷ told)
-    by_test true e = rw (another e) (told_beyond session other told apart)
-    by_test false e = refl
+    by_test : (b : Bool) → nat_eq t.0 session ≡ b → outboxes.told_to other (batching.beyond session told) ≡ outboxes.told_to other told
+        → outboxes.told_to other (if b then batching.beyond session told else t ∷ told) ≡ outboxes.told_to other (t ∷ told)
+    by_test true e rest = rw (another e) rest
+    by_test false e rest = refl
 
-told_leading : (session : ℕ) (told : Told) → ToldFrom session told → batching.RiseBySession told → outboxes.told_to session told ≡ batching.leading session told
-told_leading session [] from rise = refl
-told_leading session (t ∷ told) from rise = by_test (nat_eq t.0 session) refl
+told_foremost : (session : ℕ) (told : Told) → ToldFrom session told → batching.RiseBySession told → outboxes.told_to session told ≡ batching.foremost session told
+told_foremost session [] from rise = refl
+told_foremost session (t ∷ told) from rise = by_test (nat_eq t.0 session) refl (told_foremost session told from.1 rise.1)
   where
-    by_test : (b : Bool) → nat_eq t.0 session ≡ b → map (λ (u : ℕ × Event). u.1) (cond b (t ∷ filter (λ u. nat_eq u.0 session) told) (filter (λ u. nat_eq u.0 session) told))
-        ≡ (if b then t.1 ∷ batching.leading session told else [])
-    by_test true e = ap (λ (es : List Event). t.1 ∷ es) (told_leading session told from.1 rise.1)
-    by_test false e = let first : session < t.0 = apart_above session t.0 from.0 e in none_told session told (above_from session t.0 told first rise.0)
+    by_test : (b : Bool) → nat_eq t.0 session ≡ b → outboxes.told_to session told ≡ batching.foremost session told
+        → map (λ (u : ℕ × Event). u.1) (cond b (t ∷ filter (λ u. nat_eq u.0 session) told) (filter (λ u. nat_eq u.0 session) told)) ≡ (if b then t.1 ∷ batching.foremost session told else [])
+    by_test true e rest = ap (λ (es : List Event). t.1 ∷ es) rest
+    by_test false e rest = let first : session < t.0 = apart_above session t.0 from.0 e in none_told session told (above_from session t.0 told first rise.0)
+
+head_leads : (t : ℕ × Event) (told : Told) → batching.foremost t.0 (t ∷ told) ≡ t.1 ∷ batching.foremost t.0 told
+head_leads t told = rw (same_number t.0 t.0 refl) refl
 
 -- telling the first session, and then the others
 abbrev pub first_told : ℕ → ℕ → Told → outboxes.Outbox → outboxes.Outbox
-first_told place session told o = if nat_eq o.session session then batching.batched place (batching.leading session told) o else o
+first_told place session told o = if nat_eq o.session session then batching.batched place (batching.foremost session told) o else o
 
 box_step : (place : ℕ) (t : ℕ × Event) (told : Told) (o : outboxes.Outbox) → batching.RiseBySession (t ∷ told)
     → (let p = first_told place t.0 (t ∷ told) o in outboxes.box_with place (outboxes.told_to p.session (batching.beyond t.0 (t ∷ told))) p) ≡ outboxes.box_with place (outboxes.told_to o.session (t ∷ told)) o
@@ -96,36 +101,27 @@ box_step place t told o rise = by_test (nat_eq o.session t.0) refl
     from : ToldFrom t.0 (t ∷ told)
     from = (omega arith, rise.0)
 
-    here : nat_eq t.0 t.0 ≡ true
-    here = same_number t.0 t.0 refl
-
-    own : outboxes.told_to t.0 (t ∷ told) ≡ t.1 ∷ batching.leading t.0 told
-    own = told_leading t.0 (t ∷ told) from rise ∙ rw here refl
-
-    lead : batching.leading t.0 (t ∷ told) ≡ t.1 ∷ batching.leading t.0 told
-    lead = rw here refl
-
     by_test : (b : Bool) → nat_eq o.session t.0 ≡ b
-        → (let p : outboxes.Outbox = (if b then batching.batched place (batching.leading t.0 (t ∷ told)) o else o) in outboxes.box_with place (outboxes.told_to p.session (batching.beyond t.0 (t ∷ told))) p)
+        → (let p : outboxes.Outbox = (if b then batching.batched place (batching.foremost t.0 (t ∷ told)) o else o) in outboxes.box_with place (outboxes.told_to p.session (batching.beyond t.0 (t ∷ told))) p)
         ≡ outboxes.box_with place (outboxes.told_to o.session (t ∷ told)) o
     by_test true e =
         let same : o.session ≡ t.0 = number_same t.0 o.session e in
         let after : outboxes.told_to o.session (batching.beyond t.0 (t ∷ told)) ≡ [] =
         subst (λ (n : ℕ). outboxes.told_to n (batching.beyond t.0 (t ∷ told)) ≡ []) (sym same) (none_told t.0 (batching.beyond t.0 (t ∷ told)) (beyond_above t.0 (t ∷ told) from rise)) in
-        let before : outboxes.told_to o.session (t ∷ told) ≡ t.1 ∷ batching.leading t.0 told =
-        subst (λ (n : ℕ). outboxes.told_to n (t ∷ told) ≡ t.1 ∷ batching.leading t.0 told) (sym same) own in
-        ap (λ (es : List Event). outboxes.box_with place es (batching.batched place (batching.leading t.0 (t ∷ told)) o)) after
-        ∙ (ap (λ (es : List Event). batching.batched place es o) lead
+        let before : outboxes.told_to o.session (t ∷ told) ≡ t.1 ∷ batching.foremost t.0 told =
+        subst (λ (n : ℕ). outboxes.told_to n (t ∷ told) ≡ t.1 ∷ batching.foremost t.0 told) (sym same) (told_foremost t.0 (t ∷ told) from rise ∙ head_leads t told) in
+        ap (λ (es : List Event). outboxes.box_with place es (batching.batched place (batching.foremost t.0 (t ∷ told)) o)) after
+        ∙ (ap (λ (es : List Event). batching.batched place es o) (head_leads t told)
         ∙ sym (ap (λ (es : List Event). outboxes.box_with place es o) before))
     by_test false e = ap (λ (es : List Event). outboxes.box_with place es o) (told_beyond t.0 o.session (t ∷ told) e)
 
 pub all_told-step : (place : ℕ) (t : ℕ × Event) (told : Told) (boxes : List outboxes.Outbox) → batching.RiseBySession (t ∷ told)
-    → outboxes.all_told place (batching.beyond t.0 (t ∷ told)) (outboxes.change_outbox (batching.batched place (batching.leading t.0 (t ∷ told))) t.0 boxes) ≡ outboxes.all_told place (t ∷ told) boxes
+    → outboxes.all_told place (batching.beyond t.0 (t ∷ told)) (outboxes.change_outbox (batching.batched place (batching.foremost t.0 (t ∷ told))) t.0 boxes) ≡ outboxes.all_told place (t ∷ told) boxes
 all_told-step place t told [] rise = refl
 all_told-step place t told (o ∷ boxes) rise =
     let first = box_step place t told o rise in
     let rest = all_told-step place t told boxes rise in
-    ap (λ (b : outboxes.Outbox). b ∷ outboxes.all_told place (batching.beyond t.0 (t ∷ told)) (outboxes.change_outbox (batching.batched place (batching.leading t.0 (t ∷ told))) t.0 boxes)) first
+    ap (λ (b : outboxes.Outbox). b ∷ outboxes.all_told place (batching.beyond t.0 (t ∷ told)) (outboxes.change_outbox (batching.batched place (batching.foremost t.0 (t ∷ told))) t.0 boxes)) first
     ∙ ap (λ (bs : List outboxes.Outbox). outboxes.box_with place (outboxes.told_to o.session (t ∷ told)) o ∷ bs) rest
 
 -- the batches of sessions above the first are those of what is beyond it
@@ -148,94 +144,93 @@ no_box_above session (o ∷ boxes) above =
     rw (above_apart session o.session first) (no_box_above session boxes (AscendAbove-lower session o.session boxes (omega arith) above.1))
 
 abbrev pub first_batch : ℕ → ℕ → Told → List outboxes.Outbox → List (ℕ × Batch)
-first_batch place session told boxes = batching.batch_to session (batching.batch_for place (batching.leading session told) (outboxes.outbox_of boxes session))
+first_batch place session told boxes = batching.own_batch session (batching.batch_for place (batching.foremost session told) (outboxes.outbox_of boxes session))
+
+-- the batches after the first
+abbrev other_batches : ℕ → ℕ × Event → Told → List outboxes.Outbox → List (ℕ × Batch)
+other_batches place t told boxes =
+    outboxes.batches_due place (batching.beyond t.0 (t ∷ told)) (outboxes.change_outbox (batching.batched place (batching.foremost t.0 (t ∷ told))) t.0 boxes)
+
+-- the claim for one more outbox, by whether it is of the first session
+abbrev DueAt : ℕ → ℕ × Event → Told → outboxes.Outbox → List outboxes.Outbox → Bool → Type 0
+DueAt place t told o boxes b = outboxes.batches_due place (t ∷ told) (o ∷ boxes)
+    ≡ batching.own_batch t.0 (batching.batch_for place (batching.foremost t.0 (t ∷ told)) (cond b (Some o) (outboxes.outbox_of boxes t.0)))
+    ++ ((let p : outboxes.Outbox = (if b then batching.batched place (batching.foremost t.0 (t ∷ told)) o else o) in outboxes.batch_due place (outboxes.told_to p.session (batching.beyond t.0 (t ∷ told))) p)
+    ++ other_batches place t told boxes)
 
 pub due-step : (place : ℕ) (t : ℕ × Event) (told : Told) (boxes : List outboxes.Outbox) → batching.RiseBySession (t ∷ told) → box_order.Ascend boxes
     → outboxes.batches_due place (t ∷ told) boxes
-    ≡ first_batch place t.0 (t ∷ told) boxes ++ outboxes.batches_due place (batching.beyond t.0 (t ∷ told)) (outboxes.change_outbox (batching.batched place (batching.leading t.0 (t ∷ told))) t.0 boxes)
+    ≡ first_batch place t.0 (t ∷ told) boxes ++ outboxes.batches_due place (batching.beyond t.0 (t ∷ told)) (outboxes.change_outbox (batching.batched place (batching.foremost t.0 (t ∷ told))) t.0 boxes)
 due-step place t told [] rise ascend = refl
-due-step place t told (o ∷ boxes) rise ascend = by_test (nat_eq o.session t.0) refl
+due-step place t told (o ∷ boxes) rise ascend = by_test (nat_eq o.session t.0) refl (due-step place t told boxes rise (Ascend-rest o.session boxes ascend))
   where
     from : ToldFrom t.0 (t ∷ told)
     from = (omega arith, rise.0)
 
-    here : nat_eq t.0 t.0 ≡ true
-    here = same_number t.0 t.0 refl
-
-    own : outboxes.told_to t.0 (t ∷ told) ≡ t.1 ∷ batching.leading t.0 told
-    own = told_leading t.0 (t ∷ told) from rise ∙ rw here refl
-
-    lead : batching.leading t.0 (t ∷ told) ≡ t.1 ∷ batching.leading t.0 told
-    lead = rw here refl
-
-    abbrev more : List (ℕ × Batch)
-    more = outboxes.batches_due place (batching.beyond t.0 (t ∷ told)) (outboxes.change_outbox (batching.batched place (batching.leading t.0 (t ∷ told))) t.0 boxes)
-
-    abbrev Goal : Bool → Type 0
-    Goal b = outboxes.batches_due place (t ∷ told) (o ∷ boxes)
-        ≡ batching.batch_to t.0 (batching.batch_for place (batching.leading t.0 (t ∷ told)) (cond b (Some o) (outboxes.outbox_of boxes t.0)))
-        ++ ((let p : outboxes.Outbox = (if b then batching.batched place (batching.leading t.0 (t ∷ told)) o else o) in outboxes.batch_due place (outboxes.told_to p.session (batching.beyond t.0 (t ∷ told))) p) ++ more)
-
-    by_order : nat_eq o.session t.0 ≡ false → (b : Bool) → nat_lt o.session t.0 ≡ b → Goal false
-    by_order e true less =
+    by_order : outboxes.batches_due place (t ∷ told) boxes ≡ first_batch place t.0 (t ∷ told) boxes ++ other_batches place t told boxes
+        → nat_eq o.session t.0 ≡ false → (b : Bool) → nat_lt o.session t.0 ≡ b → DueAt place t told o boxes false
+    by_order same e true less =
         let lt : o.session < t.0 = ltb-true _ _ less in
         let quiet : outboxes.told_to o.session (t ∷ told) ≡ [] = none_told o.session (t ∷ told) (above_from o.session t.0 (t ∷ told) lt from) in
         let still : outboxes.told_to o.session (batching.beyond t.0 (t ∷ told)) ≡ [] =
         none_told o.session (batching.beyond t.0 (t ∷ told)) (beyond_all (λ u. o.session < u.0) t.0 (t ∷ told) (above_from o.session t.0 (t ∷ told) lt from)) in
         ap (λ (es : List Event). outboxes.batch_due place es o ++ outboxes.batches_due place (t ∷ told) boxes) quiet
-        ∙ (due-step place t told boxes rise (Ascend-rest o.session boxes ascend)
-        ∙ sym (ap (λ (es : List Event). first_batch place t.0 (t ∷ told) boxes ++ (outboxes.batch_due place es o ++ more)) still))
-    by_order e false less =
+        ∙ (same
+        ∙ sym (ap (λ (es : List Event). first_batch place t.0 (t ∷ told) boxes ++ (outboxes.batch_due place es o ++ other_batches place t told boxes)) still))
+    by_order same e false less =
         let le : t.0 ≤ o.session = ltb-false _ _ less in
-        let above : box_order.AscendAbove t.0 (o ∷ boxes) = (apart_above t.0 o.session le e, ascend) in
-        let none : outboxes.outbox_of boxes t.0 ≡ None = no_box_above t.0 boxes (AscendAbove-lower t.0 o.session boxes le ascend) in
-        let rest : outboxes.batches_due place (t ∷ told) (o ∷ boxes) ≡ outboxes.batch_due place (outboxes.told_to o.session (batching.beyond t.0 (t ∷ told))) o ++ more =
+        let above : box_order.AscendAbove t.0 boxes = AscendAbove-lower t.0 o.session boxes le ascend in
+        let none : outboxes.outbox_of boxes t.0 ≡ None = no_box_above t.0 boxes above in
+        let rest : outboxes.batches_due place (t ∷ told) (o ∷ boxes) ≡ outboxes.batch_due place (outboxes.told_to o.session (batching.beyond t.0 (t ∷ told))) o ++ other_batches place t told boxes =
         ap (λ (es : List Event). outboxes.batch_due place es o ++ outboxes.batches_due place (t ∷ told) boxes) (sym (told_beyond t.0 o.session (t ∷ told) e))
         ∙ ap (λ (bs : List (ℕ × Batch)). outboxes.batch_due place (outboxes.told_to o.session (batching.beyond t.0 (t ∷ told))) o ++ bs)
-        (due_above place t.0 (t ∷ told) (batching.batched place (batching.leading t.0 (t ∷ told))) boxes above.1) in
-        rest ∙ sym (ap (λ (x : Option outboxes.Outbox). batching.batch_to t.0 (batching.batch_for place (batching.leading t.0 (t ∷ told)) x)
-        ++ (outboxes.batch_due place (outboxes.told_to o.session (batching.beyond t.0 (t ∷ told))) o ++ more)) none)
+        (due_above place t.0 (t ∷ told) (batching.batched place (batching.foremost t.0 (t ∷ told))) boxes above) in
+        rest ∙ sym (ap (λ (x : Option outboxes.Outbox). batching.own_batch t.0 (batching.batch_for place (batching.foremost t.0 (t ∷ told)) x)
+        ++ (outboxes.batch_due place (outboxes.told_to o.session (batching.beyond t.0 (t ∷ told))) o ++ other_batches place t told boxes)) none)
 
-    by_test : (b : Bool) → nat_eq o.session t.0 ≡ b → Goal b
-    by_test true e =
+    by_test : (b : Bool) → nat_eq o.session t.0 ≡ b → outboxes.batches_due place (t ∷ told) boxes ≡ first_batch place t.0 (t ∷ told) boxes ++ other_batches place t told boxes
+        → DueAt place t told o boxes b
+    by_test true e later =
         let same : o.session ≡ t.0 = number_same t.0 o.session e in
         let above : box_order.AscendAbove t.0 boxes = subst (λ (n : ℕ). box_order.AscendAbove n boxes) same ascend in
         let after : outboxes.told_to o.session (batching.beyond t.0 (t ∷ told)) ≡ [] =
         subst (λ (n : ℕ). outboxes.told_to n (batching.beyond t.0 (t ∷ told)) ≡ []) (sym same) (none_told t.0 (batching.beyond t.0 (t ∷ told)) (beyond_above t.0 (t ∷ told) from rise)) in
-        let before : outboxes.told_to o.session (t ∷ told) ≡ batching.leading t.0 (t ∷ told) =
-        subst (λ (n : ℕ). outboxes.told_to n (t ∷ told) ≡ batching.leading t.0 (t ∷ told)) (sym same) (own ∙ sym lead) in
-        let one : outboxes.batch_due place (batching.leading t.0 (t ∷ told)) o ≡ (o.session, outboxes.batch_of o.batches place (batching.leading t.0 (t ∷ told))) ∷ [] =
-        ap (λ (es : List Event). outboxes.batch_due place es o) lead ∙ sym (ap (λ (es : List Event). (o.session, outboxes.batch_of o.batches place es) ∷ []) lead) in
-        let named : outboxes.batch_due place (outboxes.told_to o.session (t ∷ told)) o ≡ (t.0, outboxes.batch_of o.batches place (batching.leading t.0 (t ∷ told))) ∷ [] =
+        let before : outboxes.told_to o.session (t ∷ told) ≡ batching.foremost t.0 (t ∷ told) =
+        subst (λ (n : ℕ). outboxes.told_to n (t ∷ told) ≡ batching.foremost t.0 (t ∷ told)) (sym same) (told_foremost t.0 (t ∷ told) from rise) in
+        let one : outboxes.batch_due place (batching.foremost t.0 (t ∷ told)) o ≡ (o.session, outboxes.batch_of o.batches place (batching.foremost t.0 (t ∷ told))) ∷ [] =
+        ap (λ (es : List Event). outboxes.batch_due place es o) (head_leads t told) ∙ sym (ap (λ (es : List Event). (o.session, outboxes.batch_of o.batches place es) ∷ []) (head_leads t told)) in
+        let named : outboxes.batch_due place (outboxes.told_to o.session (t ∷ told)) o ≡ (t.0, outboxes.batch_of o.batches place (batching.foremost t.0 (t ∷ told))) ∷ [] =
         ap (λ (es : List Event). outboxes.batch_due place es o) before ∙ (one
-        ∙ ap (λ (n : ℕ). (n, outboxes.batch_of o.batches place (batching.leading t.0 (t ∷ told))) ∷ []) same) in
-        let rest : outboxes.batches_due place (t ∷ told) boxes ≡ more = due_above place t.0 (t ∷ told) (batching.batched place (batching.leading t.0 (t ∷ told))) boxes above in
+        ∙ ap (λ (n : ℕ). (n, outboxes.batch_of o.batches place (batching.foremost t.0 (t ∷ told))) ∷ []) same) in
+        let rest : outboxes.batches_due place (t ∷ told) boxes ≡ other_batches place t told boxes = due_above place t.0 (t ∷ told) (batching.batched place (batching.foremost t.0 (t ∷ told))) boxes above in
         ap (λ (bs : List (ℕ × Batch)). bs ++ outboxes.batches_due place (t ∷ told) boxes) named
-        ∙ (ap (λ (bs : List (ℕ × Batch)). (t.0, outboxes.batch_of o.batches place (batching.leading t.0 (t ∷ told))) ∷ bs) rest
-        ∙ sym (ap (λ (es : List Event). (t.0, outboxes.batch_of o.batches place (batching.leading t.0 (t ∷ told))) ∷ (outboxes.batch_due place es (batching.batched place (batching.leading t.0 (t ∷ told)) o) ++ more)) after))
-    by_test false e = by_order e (nat_lt o.session t.0) refl
+        ∙ (ap (λ (bs : List (ℕ × Batch)). (t.0, outboxes.batch_of o.batches place (batching.foremost t.0 (t ∷ told))) ∷ bs) rest
+        ∙ sym (ap (λ (es : List Event). (t.0, outboxes.batch_of o.batches place (batching.foremost t.0 (t ∷ told))) ∷ (outboxes.batch_due place es (batching.batched place (batching.foremost t.0 (t ∷ told)) o) ++ other_batches place t told boxes)) after))
+    by_test false e later = by_order later e (nat_lt o.session t.0) refl
 
 -- the others stay open
 last_other : (place session other : ℕ) (events : List Event) (boxes : List outboxes.Outbox) → nat_eq other session ≡ false
     → outboxes.last_batch (outboxes.change_outbox (batching.batched place events) session boxes) other ≡ outboxes.last_batch boxes other
 last_other place session other events [] apart = refl
-last_other place session other events (o ∷ boxes) apart = by_test (nat_eq o.session session) refl
+last_other place session other events (o ∷ boxes) apart = by_test (nat_eq o.session session) refl (last_other place session other events boxes apart)
   where
     by_test : (b : Bool) → nat_eq o.session session ≡ b
+        → outboxes.last_batch (outboxes.change_outbox (batching.batched place events) session boxes) other ≡ outboxes.last_batch boxes other
         → outboxes.last_batch ((if b then batching.batched place events o else o) ∷ outboxes.change_outbox (batching.batched place events) session boxes) other ≡ outboxes.last_batch (o ∷ boxes) other
-    by_test true e =
+    by_test true e rest =
         let same : o.session ≡ session = number_same session o.session e in
         let another : nat_eq o.session other ≡ false = subst (λ (n : ℕ). nat_eq n other ≡ false) (sym same) (turned other session apart) in
-        rw another (last_other place session other events boxes apart)
+        rw another rest
       where
         turned : (m n : ℕ) → nat_eq m n ≡ false → nat_eq n m ≡ false
         turned m n e = grind (arith, nat_tests)
-    by_test false e = by_other (nat_eq o.session other)
+    by_test false e rest = by_other (nat_eq o.session other) rest
       where
-        by_other : (b : Bool) → outboxes.last_batch_in (cond b (Some o) (outboxes.outbox_of (outboxes.change_outbox (batching.batched place events) session boxes) other))
+        by_other : (b : Bool) → outboxes.last_batch (outboxes.change_outbox (batching.batched place events) session boxes) other ≡ outboxes.last_batch boxes other
+            → outboxes.last_batch_in (cond b (Some o) (outboxes.outbox_of (outboxes.change_outbox (batching.batched place events) session boxes) other))
             ≡ outboxes.last_batch_in (cond b (Some o) (outboxes.outbox_of boxes other))
-        by_other true = refl
-        by_other false = last_other place session other events boxes apart
+        by_other true rest = refl
+        by_other false rest = rest
 
 still_open : (place session : ℕ) (events : List Event) (told : Told) (boxes : List outboxes.Outbox) → ToldAbove session told
     → batching.AreOpen place told boxes → batching.AreOpen place told (outboxes.change_outbox (batching.batched place events) session boxes)
@@ -246,10 +241,10 @@ still_open place session events (t ∷ told) boxes above are = (
 )
 
 pub open-step : (place : ℕ) (t : ℕ × Event) (told : Told) (boxes : List outboxes.Outbox) → batching.RiseBySession (t ∷ told) → batching.AreOpen place (t ∷ told) boxes
-    → batching.AreOpen place (batching.beyond t.0 (t ∷ told)) (outboxes.change_outbox (batching.batched place (batching.leading t.0 (t ∷ told))) t.0 boxes)
+    → batching.AreOpen place (batching.beyond t.0 (t ∷ told)) (outboxes.change_outbox (batching.batched place (batching.foremost t.0 (t ∷ told))) t.0 boxes)
 open-step place t told boxes rise are =
     let from : ToldFrom t.0 (t ∷ told) = (omega arith, rise.0) in
-    still_open place t.0 (batching.leading t.0 (t ∷ told)) (batching.beyond t.0 (t ∷ told)) boxes (beyond_above t.0 (t ∷ told) from rise)
+    still_open place t.0 (batching.foremost t.0 (t ∷ told)) (batching.beyond t.0 (t ∷ told)) boxes (beyond_above t.0 (t ∷ told) from rise)
     (beyond_all (λ u. outboxes.last_batch boxes u.0 < place) t.0 (t ∷ told) are)
 
 -- what is beyond is less
@@ -260,9 +255,6 @@ beyond_less session (t ∷ told) = by_test (nat_eq t.0 session) (beyond_less ses
     by_test : (b : Bool) → length (batching.beyond session told) ≤ length told → length (if b then batching.beyond session told else t ∷ told) ≤ length (t ∷ told)
     by_test true le = omega arith
     by_test false le = omega arith
-
-pub beyond_fewer : (t : ℕ × Event) (told : Told) → length (batching.beyond t.0 (t ∷ told)) < length (t ∷ told)
-beyond_fewer t told = let le : length (batching.beyond t.0 told) ≤ length told = beyond_less t.0 told in rw (same_number t.0 t.0 refl) (omega arith)
 
 -- where nobody is told, there is no batch and nothing changes
 pub quiet_due : (place : ℕ) (boxes : List outboxes.Outbox) → outboxes.batches_due place [] boxes ≡ []
@@ -291,12 +283,62 @@ same_told place told sorted same (o ∷ boxes) =
 -- where every batch is earlier than a place, all are open for it
 last_earlier : (place session : ℕ) (boxes : List outboxes.Outbox) → 0 < place → AllByRecursion (λ o. o.batches.last < place) boxes → outboxes.last_batch boxes session < place
 last_earlier place session [] positive earlier = positive
-last_earlier place session (o ∷ boxes) positive earlier = by_test (nat_eq o.session session)
+last_earlier place session (o ∷ boxes) positive earlier = by_test (nat_eq o.session session) (last_earlier place session boxes positive earlier.1)
   where
-    by_test : (b : Bool) → outboxes.last_batch_in (cond b (Some o) (outboxes.outbox_of boxes session)) < place
-    by_test true = earlier.0
-    by_test false = last_earlier place session boxes positive earlier.1
+    by_test : (b : Bool) → outboxes.last_batch boxes session < place → outboxes.last_batch_in (cond b (Some o) (outboxes.outbox_of boxes session)) < place
+    by_test true rest = earlier.0
+    by_test false rest = rest
 
 pub all_open : (place : ℕ) (told : Told) (boxes : List outboxes.Outbox) → 0 < place → AllByRecursion (λ o. o.batches.last < place) boxes → batching.AreOpen place told boxes
 all_open place [] boxes positive earlier = tt
 all_open place (t ∷ told) boxes positive earlier = (last_earlier place t.0 boxes positive earlier, all_open place told boxes positive earlier)
+
+-- one turn, and the end
+pub open_first : (place session : ℕ) (told : Told) (boxes : List outboxes.Outbox) → batching.first_session told ≡ Some session → batching.AreOpen place told boxes
+    → outboxes.last_batch boxes session < place
+open_first place session [] boxes first are = cc
+open_first place session (t ∷ told) boxes first are = let same : t.0 ≡ session = cc in subst (λ (n : ℕ). outboxes.last_batch boxes n < place) same are.0
+
+pub beyond_fewer : (session : ℕ) (told : Told) → batching.first_session told ≡ Some session → length (batching.beyond session told) < length told
+beyond_fewer session [] first = cc
+beyond_fewer session (t ∷ told) first =
+    let same : t.0 ≡ session = cc in
+    let le : length (batching.beyond session told) ≤ length told = beyond_less session told in
+    rw (same_number session t.0 same) (omega arith)
+
+abbrev pub Turning : ℕ → Told → List outboxes.Outbox → List (ℕ × Batch) → List (ℕ × Batch) → List outboxes.Outbox → Type 0
+Turning place told boxes batches whole last =
+    batching.RiseBySession told × batching.AreOpen place told boxes × (batches ++ outboxes.batches_due place told boxes ≡ whole) × (outboxes.all_told place told boxes ≡ last)
+
+pub turn_step : (place session : ℕ) (told left : Told) (boxes later : List outboxes.Outbox) (batches more whole : List (ℕ × Batch)) (last : List outboxes.Outbox)
+    → batching.first_session told ≡ Some session → box_order.Ascend boxes → Turning place told boxes batches whole last → left ≡ batching.beyond session told
+    → more ≡ batches ++ batching.own_batch session (batching.batch_for place (batching.foremost session told) (outboxes.outbox_of boxes session))
+    → later ≡ outboxes.change_outbox (batching.batched place (batching.foremost session told)) session boxes
+    → Turning place left later more whole last
+turn_step place session [] left boxes later batches more whole last first ascend turning el em eb = cc
+turn_step place session (t ∷ told) left boxes later batches more whole last first ascend turning el em eb =
+    let same : session ≡ t.0 = cc in
+    let is_left : left ≡ batching.beyond t.0 (t ∷ told) = subst (λ (n : ℕ). left ≡ batching.beyond n (t ∷ told)) same el in
+    let is_later : later ≡ outboxes.change_outbox (batching.batched place (batching.foremost t.0 (t ∷ told))) t.0 boxes =
+    subst (λ (n : ℕ). later ≡ outboxes.change_outbox (batching.batched place (batching.foremost n (t ∷ told))) n boxes) same eb in
+    let is_more : more ≡ batches ++ first_batch place t.0 (t ∷ told) boxes =
+    subst (λ (n : ℕ). more ≡ batches ++ first_batch place n (t ∷ told) boxes) same em in
+    let at_left : Turning place (batching.beyond t.0 (t ∷ told)) (outboxes.change_outbox (batching.batched place (batching.foremost t.0 (t ∷ told))) t.0 boxes)
+    (batches ++ first_batch place t.0 (t ∷ told) boxes) whole last = (
+      beyond_rise t.0 (t ∷ told) turning.0,
+      open-step place t told boxes turning.0 turning.1,
+      append_assoc batches (first_batch place t.0 (t ∷ told) boxes) (outboxes.batches_due place (batching.beyond t.0 (t ∷ told)) (outboxes.change_outbox (batching.batched place (batching.foremost t.0 (t ∷ told))) t.0 boxes))
+      ∙ (ap (λ (bs : List (ℕ × Batch)). batches ++ bs) (sym (due-step place t told boxes turning.0 ascend)) ∙ turning.2),
+      all_told-step place t told boxes turning.0 ∙ turning.3,
+    ) in
+    let with_left = subst (λ (ts : Told). Turning place ts (outboxes.change_outbox (batching.batched place (batching.foremost t.0 (t ∷ told))) t.0 boxes) (batches ++ first_batch place t.0 (t ∷ told) boxes) whole last) (sym is_left) at_left in
+    let with_later = subst (λ (bs : List outboxes.Outbox). Turning place left bs (batches ++ first_batch place t.0 (t ∷ told) boxes) whole last) (sym is_later) with_left in
+    subst (λ (bs : List (ℕ × Batch)). Turning place left later bs whole last) (sym is_more) with_later
+
+pub turn_end : (place : ℕ) (told : Told) (boxes : List outboxes.Outbox) (batches whole : List (ℕ × Batch)) (last : List outboxes.Outbox)
+    → batching.first_session told ≡ None → Turning place told boxes batches whole last → (batches ≡ whole) × (boxes ≡ last)
+turn_end place [] boxes batches whole last none turning = (
+  sym (append-nil batches) ∙ (ap (λ (bs : List (ℕ × Batch)). batches ++ bs) (sym (quiet_due place boxes)) ∙ turning.2),
+  sym (quiet_told place boxes) ∙ turning.3,
+)
+turn_end place (t ∷ told) boxes batches whole last none turning = cc

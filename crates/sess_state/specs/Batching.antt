@@ -14,9 +14,9 @@ abbrev pub batch_for : ℕ → List Event → Option outboxes.Outbox → Option 
 batch_for place events None = None
 batch_for place events (Some o) = Some (outboxes.batch_of o.batches place events)
 
-abbrev pub batch_to : ℕ → Option Batch → List (ℕ × Batch)
-batch_to session None = []
-batch_to session (Some b) = (session, b) ∷ []
+abbrev pub own_batch : ℕ → Option Batch → List (ℕ × Batch)
+own_batch session None = []
+own_batch session (Some b) = (session, b) ∷ []
 
 -- the session that is told first
 abbrev pub first_session : List (ℕ × Event) → Option ℕ
@@ -29,9 +29,9 @@ is_first session [] = false
 is_first session (t ∷ told) = nat_eq t.0 session
 
 -- the events at the front that are for a session, and what is told after them
-abbrev pub leading : ℕ → List (ℕ × Event) → List Event
-leading session [] = []
-leading session (t ∷ told) = if nat_eq t.0 session then t.1 ∷ leading session told else []
+abbrev pub foremost : ℕ → List (ℕ × Event) → List Event
+foremost session [] = []
+foremost session (t ∷ told) = if nat_eq t.0 session then t.1 ∷ foremost session told else []
 
 abbrev pub beyond : ℕ → List (ℕ × Event) → List (ℕ × Event)
 beyond session [] = []

@@ -21,7 +21,7 @@ abbrev pub parts_after : Parts → session_states.Effect → Parts
 parts_after p e = record p { table = e.table; boxes = e.boxes }
 
 -- a place is above every session and batch
-pub record AreBelow (place : ℕ) (t : tables.Table) (boxes : List outboxes.Outbox) : Type 0 where
+pub record LieBelow (place : ℕ) (t : tables.Table) (boxes : List outboxes.Outbox) : Type 0 where
   pub table : table_parts.IsNew t place
   pub sessions : AllByRecursion (λ o. o.session < place) boxes
   pub batches : AllByRecursion (λ o. o.batches.last < place) boxes

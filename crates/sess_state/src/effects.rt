@@ -76,7 +76,7 @@ impl Parts {
         client: ClientId,
         opening: u64,
     ) -> Result<Effect, NoMemory>
-        requires { session_parts.AreBelow place self.old.table self.old.boxes }
+        requires { session_parts.LieBelow place self.old.table self.old.boxes }
         ensures effect { IfOk result (λ effect. effect ≡ session_parts.effect_of (session_states.registering (session_parts.of_parts self.old) place time client opening)) }
         ensures after { OnOk result (self.new ≡ session_parts.parts_after self.old (session_states.registering (session_parts.of_parts self.old) place time client opening)) }
     {
@@ -205,7 +205,7 @@ impl Parts {
 
     /// What an entry's body does at a place and log time.
     pub fn effect(&mut self, place: u64, time: u64, body: &Body) -> Result<Effect, NoMemory>
-        requires { session_parts.AreBelow place self.old.table self.old.boxes }
+        requires { session_parts.LieBelow place self.old.table self.old.boxes }
         ensures effect { IfOk result (λ effect. effect ≡ session_parts.effect_of (session_states.effect (session_parts.of_parts self.old) place time body.now)) }
         ensures after { OnOk result (self.new ≡ session_parts.parts_after self.old (session_states.effect (session_parts.of_parts self.old) place time body.now)) }
     {

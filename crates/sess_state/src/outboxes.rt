@@ -169,6 +169,7 @@ impl Outboxes {
         requires { outbox.last_batch self.old session < place }
         ensures ok { IfOk result (λ batch. batch ≡ batching.batch_for place events (outbox.outbox_of self.old session)) }
         ensures after { OnOk result (self.new ≡ outbox.change_outbox (batching.batched place events) session self.old) }
+        ensures ascending { box_order.Ascend self.old }
         ensures err { OnErr result (self.new ≡ self.old) }
     {
         let Some(index) = self.index_of(session) else {

@@ -35,7 +35,7 @@ impl Model for SessState {
       is_spent = a.is_spent;
     } };
 
-    ghost invariant = { λ a. a.is_spent ≡ false → (a.book.is_spent ≡ false) × session_parts.AreBelow (suc a.applied) a.parts.table a.parts.boxes };
+    ghost invariant = { λ a. a.is_spent ≡ false → (a.book.is_spent ≡ false) × session_parts.LieBelow (suc a.applied) a.parts.table a.parts.boxes };
 }
 
 impl SessState {

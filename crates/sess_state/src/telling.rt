@@ -3,6 +3,7 @@ ghost use Rattle.std.specs.Prelude.{◌≡◌, ◌<◌, ◌++◌, IfOk, OnOk};
 ghost use Rattle.std.specs.List.{AllByRecursion};
 ghost use Rattle.spec_sessions.specs.Outboxes as outbox;
 ghost use Rattle.sess_state.specs.Batching as batching;
+ghost use Rattle.sess_state.specs.BoxOrder as box_order;
 
 use crate::outboxes::Outboxes;
 use ax_types::{Batch, Event, List, NoMemory};
@@ -30,16 +31,16 @@ fn is_first(told: &VecDeque<(u64, Event)>, session: u64) -> bool
 }
 
 /// Takes the events for a session off the front.
-fn take_leading(
+fn take_foremost(
     alloc: Global,
     told: &mut VecDeque<(u64, Event)>,
     session: u64,
 ) -> Result<List<Event>, NoMemory>
-    ensures events { IfOk result (λ events. events ≡ batching.leading session told.old.items) }
+    ensures events { IfOk result (λ events. events ≡ batching.foremost session told.old.items) }
     ensures after { OnOk result (told.new.items ≡ batching.beyond session told.old.items) }
 {
     let mut events = List::new(alloc);
-    'leading: while is_first(told, session) {
+    'foremost: while is_first(told, session) {
         if let Some((_, event)) = told.pop_front() {
             events.push(event)?;
         }
@@ -56,8 +57,9 @@ fn tell_one(
     batches: &mut List<(u64, Batch)>,
 ) -> Result<(), NoMemory>
     requires { outbox.last_batch boxes.old session < place }
-    ensures batches { OnOk result (batches.new ≡ batches.old ++ batching.batch_to session (batching.batch_for place events (outbox.outbox_of boxes.old session))) }
+    ensures batches { OnOk result (batches.new ≡ batches.old ++ batching.own_batch session (batching.batch_for place events (outbox.outbox_of boxes.old session))) }
     ensures boxes { OnOk result (boxes.new ≡ outbox.change_outbox (batching.batched place events) session boxes.old) }
+    ensures ascending { box_order.Ascend boxes.old }
 {
     if let Some(batch) = boxes.tell(place, session, events)? {
         batches.push((session, batch))?;
@@ -80,7 +82,7 @@ fn tell_in_order(
     let mut left = told;
     let mut batches = List::new(alloc);
     'sessions: while let Some(session) = first_session(&left) {
-        let events = take_leading(alloc, &mut left, session)?;
+        let events = take_foremost(alloc, &mut left, session)?;
         tell_one(boxes, place, session, events, &mut batches)?;
     }
     Ok(batches)
