@@ -77,7 +77,7 @@ expiring_live t session time e = live_state (tables.live_session t session) (tab
 new_registered : (t : tables.Table) (place client opening time : ℕ) → table_parts.IsNew t place → table_parts.IsNew (tables.registered t place client opening time) (suc place)
 new_registered t place client opening time new = (
   all_push (λ (l : tables.Live). l.session < suc place) t.live (record { session = place; client = client; opening = opening; sign = time })
-  (all_weaker (λ (l : tables.Live). l.session < place) (λ (l : tables.Live). l.session < suc place) (λ l lt. next_less l.session place lt) t.live new.0) (omega arith),
+      (all_weaker (λ (l : tables.Live). l.session < place) (λ (l : tables.Live). l.session < suc place) (λ l lt. next_less l.session place lt) t.live new.0) (omega arith),
   all_weaker (λ (p : tables.PastSession). p.session < place) (λ (p : tables.PastSession). p.session < suc place) (λ p lt. next_less p.session place lt) t.past new.1,
 )
 

@@ -87,6 +87,13 @@ position_at n boxes i o ascend there same = by_place i boxes there ascend
         read zero (b ∷ boxes) e = (omega arith, cc)
         read (suc i) (b ∷ boxes) e = let more = read i boxes e in (omega (arith, more.0), more.1)
 
+pub position_where : (n i : ℕ) (boxes : List outboxes.Outbox) → box_order.Ascend boxes → box_order.is_box_of n (slice_get boxes i) ≡ true → position (is_of n) boxes ≡ Some i
+position_where n i boxes ascend there = by_box (slice_get boxes i) refl there
+  where
+    by_box : (x : Option outboxes.Outbox) → slice_get boxes i ≡ x → box_order.is_box_of n x ≡ true → position (is_of n) boxes ≡ Some i
+    by_box None e same = cc
+    by_box (Some o) e same = position_at n boxes i o ascend e same
+
 -- no outbox is of a session, where those up to an index have lower ones, and the next has another, not lower one
 position_or_len-above : (n : ℕ) (boxes : List outboxes.Outbox) → box_order.AscendAbove n boxes → position_or_len (is_of n) boxes ≡ length boxes
 position_or_len-above n [] above = refl

@@ -133,8 +133,8 @@ due_above place session told f (o ∷ boxes) above =
     let apart : nat_eq o.session session ≡ false = above_apart session o.session first in
     let rest = due_above place session told f boxes (AscendAbove-lower session o.session boxes (omega arith) above.1) in
     rw apart (
-      ap (λ (es : List Event). outboxes.batch_due place es o ++ outboxes.batches_due place told boxes) (sym (told_beyond session o.session told apart))
-      ∙ ap (λ (bs : List (ℕ × Batch)). outboxes.batch_due place (outboxes.told_to o.session (batching.beyond session told)) o ++ bs) rest
+    ap (λ (es : List Event). outboxes.batch_due place es o ++ outboxes.batches_due place told boxes) (sym (told_beyond session o.session told apart))
+    ∙ ap (λ (bs : List (ℕ × Batch)). outboxes.batch_due place (outboxes.told_to o.session (batching.beyond session told)) o ++ bs) rest
     )
 
 no_box_above : (session : ℕ) (boxes : List outboxes.Outbox) → box_order.AscendAbove session boxes → outboxes.outbox_of boxes session ≡ None
@@ -328,7 +328,7 @@ turn_step place session (t ∷ told) left boxes later batches more whole last fi
       beyond_rise t.0 (t ∷ told) turning.0,
       open-step place t told boxes turning.0 turning.1,
       append_assoc batches (first_batch place t.0 (t ∷ told) boxes) (outboxes.batches_due place (batching.beyond t.0 (t ∷ told)) (outboxes.change_outbox (batching.batched place (batching.foremost t.0 (t ∷ told))) t.0 boxes))
-      ∙ (ap (λ (bs : List (ℕ × Batch)). batches ++ bs) (sym (due-step place t told boxes turning.0 ascend)) ∙ turning.2),
+          ∙ (ap (λ (bs : List (ℕ × Batch)). batches ++ bs) (sym (due-step place t told boxes turning.0 ascend)) ∙ turning.2),
       all_told-step place t told boxes turning.0 ∙ turning.3,
     ) in
     let with_left = subst (λ (ts : Told). Turning place ts (outboxes.change_outbox (batching.batched place (batching.foremost t.0 (t ∷ told))) t.0 boxes) (batches ++ first_batch place t.0 (t ∷ told) boxes) whole last) (sym is_left) at_left in
@@ -342,3 +342,39 @@ turn_end place [] boxes batches whole last none turning = (
   sym (quiet_told place boxes) ∙ turning.3,
 )
 turn_end place (t ∷ told) boxes batches whole last none turning = cc
+
+-- the events of the first session, one by one
+pub foremost_step : (session : ℕ) (told left : Told) (t : ℕ × Event) (events more all : List Event) (last : Told) → batching.is_first session told ≡ true → told ≡ t ∷ left
+    → more ≡ events ++ t.1 ∷ [] → (events ++ batching.foremost session told ≡ all) × (batching.beyond session told ≡ last)
+    → (more ++ batching.foremost session left ≡ all) × (batching.beyond session left ≡ last)
+foremost_step session [] left t events more all last first is em so = cc
+foremost_step session (u ∷ told) left t events more all last first is em so =
+    let same_told : told ≡ left = cc in
+    let same : u ≡ t = cc in
+    let here : batching.foremost session (u ∷ told) ≡ u.1 ∷ batching.foremost session told = rw first refl in
+    let past : batching.beyond session (u ∷ told) ≡ batching.beyond session told = rw first refl in (
+      ap (λ (es : List Event). es ++ batching.foremost session left) em
+          ∙ (append_assoc events (t.1 ∷ []) (batching.foremost session left)
+          ∙ (ap (λ (ts : Told). events ++ (t.1 ∷ batching.foremost session ts)) (sym same_told)
+          ∙ (ap (λ (v : ℕ × Event). events ++ (v.1 ∷ batching.foremost session told)) (sym same)
+          ∙ (ap (λ (es : List Event). events ++ es) (sym here) ∙ so.0)))),
+      ap (λ (ts : Told). batching.beyond session ts) (sym same_told) ∙ (sym past ∙ so.1),
+    )
+
+pub foremost_end : (session : ℕ) (told : Told) (events all : List Event) (last : Told) → batching.is_first session told ≡ false
+    → (events ++ batching.foremost session told ≡ all) × (batching.beyond session told ≡ last) → (events ≡ all) × (told ≡ last)
+foremost_end session [] events all last first so = (sym (append-nil events) ∙ so.0, so.1)
+foremost_end session (t ∷ told) events all last first so = (
+  sym (append-nil events) ∙ (ap (λ (es : List Event). events ++ es) (sym (none first)) ∙ so.0),
+  sym (past first) ∙ so.1,
+)
+  where
+    none : nat_eq t.0 session ≡ false → batching.foremost session (t ∷ told) ≡ []
+    none e = rw e refl
+
+    past : nat_eq t.0 session ≡ false → batching.beyond session (t ∷ told) ≡ t ∷ told
+    past e = rw e refl
+
+pub first_there : (session : ℕ) (told : Told) → batching.is_first session told ≡ true → 0 < length told
+first_there session [] first = cc
+first_there session (t ∷ told) first = omega arith

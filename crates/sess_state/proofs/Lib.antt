@@ -2,3 +2,4 @@ pub mod BoxAt
 pub mod InTurn
 pub mod SortedTold
 pub mod BelowNext
+pub mod QuietCommands

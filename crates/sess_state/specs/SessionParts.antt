@@ -1,6 +1,8 @@
 -- The parts of a session state, and what an entry does to them.
-use Rattle.std.specs.Prelude.{ℕ, suc, ◌<◌, Option, List, []}
+use Rattle.std.specs.Prelude.{ℕ, ◌<◌, Option, None, List, []}
 use Rattle.std.specs.List.{AllByRecursion}
+use Rattle.ax_types.specs.declared.entries.Act.TheVariants as act
+use Rattle.ax_types.specs.declared.packets.Payload.{Payload}
 use Rattle.spec_sessions.specs.Outboxes as outboxes
 use Rattle.spec_sessions.specs.Sessions as session_states
 use Rattle.spec_sessions.specs.Tables as tables
@@ -15,6 +17,10 @@ of_parts p = record { applied = 0; book = []; table = p.table; boxes = p.boxes }
 -- what an entry does beside the parts
 abbrev pub effect_of : session_states.Effect → Effect
 effect_of e = record { act = e.act; command = e.command; answer = e.answer }
+
+-- nothing but an answer
+abbrev pub only_answered : Option Payload → Effect
+only_answered answer = record { act = act.Nothing; command = None; answer = answer }
 
 -- the parts as an entry leaves them
 abbrev pub parts_after : Parts → session_states.Effect → Parts

@@ -1,8 +1,8 @@
 //! What an entry does to the sessions (Ongaro 2014, 6.3).
-ghost use Rattle.std.specs.Prelude.{◌≡◌, ◌<◌, ℕ, Some, IfOk, OnOk};
+ghost use Rattle.std.specs.Prelude.{◌≡◌, IfOk, OnOk};
 ghost use Rattle.std.specs.Option.{option_copied};
+ghost use Rattle.ax_types.specs.declared.packets.Payload.TheVariants as payload;
 ghost use Rattle.ax_types.specs.declared.sessions.SessionState.TheVariants as state;
-ghost use Rattle.spec_sessions.specs.Outboxes as outbox;
 ghost use Rattle.spec_sessions.specs.Sessions as session_states;
 ghost use Rattle.spec_sessions.specs.Tables as tables;
 ghost use Rattle.sess_state.specs.SessionParts as session_parts;
@@ -27,7 +27,7 @@ pub fn body_client(body: &Body) -> Option<ClientId>
 
 /// Nothing but an answer.
 fn only_answer(answer: Option<Payload>) -> Effect
-    ensures { (s : session_states.Sessions) → result ≡ session_parts.effect_of (session_states.only_answer s answer) }
+    ensures { result ≡ session_parts.only_answered answer }
 {
     Effect {
         act: Act::Nothing,
@@ -36,25 +36,22 @@ fn only_answer(answer: Option<Payload>) -> Effect
     }
 }
 
-/// Nothing at all.
+/// Nothing at all: what an entry of an unknown session does.
 fn nothing() -> Effect
-    ensures { (s : session_states.Sessions) → result ≡ session_parts.effect_of (session_states.nothing s) }
+    ensures { result ≡ session_parts.only_answered None }
 {
     only_answer(None)
 }
 
-/// An entry of a session that has ended is told so; one of an unknown session is not answered.
-fn told_end(session: u64, state: SessionState) -> Effect
-    ensures { (s : session_states.Sessions) → result ≡ session_parts.effect_of (session_states.told_end s session state) }
+/// An entry of a session that has ended is told so.
+fn told_end(session: u64, place: u64, how: How) -> Effect
+    ensures { result ≡ session_parts.only_answered (Some (payload.Ended session place how)) }
 {
-    match state {
-        SessionState::Ended { place, how } => only_answer(Some(Payload::Ended {
-            session,
-            place,
-            how,
-        })),
-        SessionState::Live | SessionState::Unknown => nothing(),
-    }
+    only_answer(Some(Payload::Ended {
+        session,
+        place,
+        how,
+    }))
 }
 
 /// The kept reply of a command that came again, unless it is let go.
@@ -62,7 +59,10 @@ fn again_from(session: u64, kept: Option<&KeptReply>) -> Result<Effect, NoMemory
     ensures { (s : session_states.Sessions) → IfOk result (λ effect. effect ≡ session_parts.effect_of (session_states.again_from s session (option_copied kept))) }
 {
     match kept {
-        Some(kept) => Ok(only_answer(Some(reply_payload(session, kept)?))),
+        Some(kept) => {
+            let payload = reply_payload(session, kept)?;
+            Ok(only_answer(Some(payload)))
+        }
         None => Ok(nothing()),
     }
 }
@@ -92,12 +92,20 @@ impl Parts {
         })
     }
 
-    /// A sign of life, which says what the client has.
-    fn keeping(&mut self, time: u64, session: u64, answered: u64, heard: u64) -> Effect
-        ensures effect { result ≡ session_parts.effect_of (session_states.keeping (session_parts.of_parts self.old) time session answered heard (tables.state_of self.old.table session)) }
-        ensures after { self.new ≡ session_parts.parts_after self.old (session_states.keeping (session_parts.of_parts self.old) time session answered heard (tables.state_of self.old.table session)) }
+    /// A sign of life of a session in this state, which says what the client has.
+    fn keeping(
+        &mut self,
+        time: u64,
+        session: u64,
+        answered: u64,
+        heard: u64,
+        state: SessionState,
+    ) -> Effect
+        requires { tables.state_of self.old.table session ≡ state }
+        ensures effect { result ≡ session_parts.effect_of (session_states.keeping (session_parts.of_parts self.old) time session answered heard state) }
+        ensures after { self.new ≡ session_parts.parts_after self.old (session_states.keeping (session_parts.of_parts self.old) time session answered heard state) }
     {
-        match self.table.state_of(session) {
+        match state {
             SessionState::Live => {
                 self.table.sign(session, time);
                 self.boxes.trim(session, answered, heard);
@@ -107,22 +115,23 @@ impl Parts {
                     answer: None,
                 }
             }
-            other => told_end(session, other),
+            SessionState::Ended { place, how } => told_end(session, place, how),
+            SessionState::Unknown => nothing(),
         }
     }
 
-    /// A command of a live session: the next one is carried out, an earlier one gets its reply again, and a later one
-    /// shows a gap.
+    /// A command of a live session whose last one has this sequence: the next one is carried out, an earlier one gets its
+    /// reply again, and a later one shows a gap.
     fn commanding_live(
         &self,
         session: u64,
         seq: u64,
         name: &Name,
         op: &Op,
+        last: u64,
     ) -> Result<Effect, NoMemory>
-        ensures { IfOk result (λ effect. effect ≡ session_parts.effect_of (session_states.commanding_live (session_parts.of_parts self.now) session seq name.now op.now (outbox.last_seq self.now.boxes session))) }
+        ensures { IfOk result (λ effect. effect ≡ session_parts.effect_of (session_states.commanding_live (session_parts.of_parts self.now) session seq name.now op.now last)) }
     {
-        let last = self.boxes.last_seq(session);
         if seq <= last {
             again_from(session, self.boxes.reply(session, seq))
         } else if seq - last == 1 {
@@ -140,13 +149,24 @@ impl Parts {
         }
     }
 
-    /// A command of a session.
-    fn commanding(&self, session: u64, seq: u64, name: &Name, op: &Op) -> Result<Effect, NoMemory>
-        ensures { IfOk result (λ effect. effect ≡ session_parts.effect_of (session_states.commanding (session_parts.of_parts self.now) session seq name.now op.now (tables.state_of self.now.table session))) }
+    /// A command of a session in this state.
+    fn commanding(
+        &self,
+        session: u64,
+        seq: u64,
+        name: &Name,
+        op: &Op,
+        state: SessionState,
+    ) -> Result<Effect, NoMemory>
+        ensures { IfOk result (λ effect. effect ≡ session_parts.effect_of (session_states.commanding (session_parts.of_parts self.now) session seq name.now op.now state)) }
     {
-        match self.table.state_of(session) {
-            SessionState::Live => self.commanding_live(session, seq, name, op),
-            other => Ok(told_end(session, other)),
+        match state {
+            SessionState::Live => {
+                let last = self.boxes.last_seq(session);
+                self.commanding_live(session, seq, name, op, last)
+            }
+            SessionState::Ended { place, how } => Ok(told_end(session, place, how)),
+            SessionState::Unknown => Ok(nothing()),
         }
     }
 
@@ -172,37 +192,42 @@ impl Parts {
         })
     }
 
-    /// The client closes a session.
-    fn closing(&mut self, place: u64, session: u64) -> Result<Effect, NoMemory>
-        ensures effect { IfOk result (λ effect. effect ≡ session_parts.effect_of (session_states.closing (session_parts.of_parts self.old) place session (tables.state_of self.old.table session))) }
-        ensures after { OnOk result (self.new ≡ session_parts.parts_after self.old (session_states.closing (session_parts.of_parts self.old) place session (tables.state_of self.old.table session))) }
+    /// The client closes a session in this state.
+    fn closing(&mut self, place: u64, session: u64, state: SessionState) -> Result<Effect, NoMemory>
+        requires { tables.state_of self.old.table session ≡ state }
+        ensures effect { IfOk result (λ effect. effect ≡ session_parts.effect_of (session_states.closing (session_parts.of_parts self.old) place session state)) }
+        ensures after { OnOk result (self.new ≡ session_parts.parts_after self.old (session_states.closing (session_parts.of_parts self.old) place session state)) }
     {
-        match self.table.state_of(session) {
+        match state {
             SessionState::Live => {
+                let how = How::Closed;
                 let answer = Payload::Ended {
                     session,
                     place,
-                    how: How::Closed,
+                    how,
                 };
-                let act = Act::Close { session };
-                self.ending(place, session, How::Closed, act, Some(answer))
+                self.ending(place, session, how, Act::Close { session }, Some(answer))
             }
-            other => Ok(told_end(session, other)),
+            SessionState::Ended { place, how } => Ok(told_end(session, place, how)),
+            SessionState::Unknown => Ok(nothing()),
         }
     }
 
+    #[tactic(auto, using(crate::proofs::BelowNext::expiring_live))]
     /// A leader ends a session that has given no sign for the timeout.
     fn expiring(&mut self, place: u64, time: u64, session: u64) -> Result<Effect, NoMemory>
         ensures effect { IfOk result (λ effect. effect ≡ session_parts.effect_of (session_states.expiring (session_parts.of_parts self.old) place time session)) }
         ensures after { OnOk result (self.new ≡ session_parts.parts_after self.old (session_states.expiring (session_parts.of_parts self.old) place time session)) }
     {
-        if !self.table.may_expire(session, time) {
-            return Ok(nothing());
+        if self.table.may_expire(session, time) {
+            let act = Act::Expire { session };
+            self.ending(place, session, How::Expired, act, None)
+        } else {
+            Ok(nothing())
         }
-        let act = Act::Expire { session };
-        self.ending(place, session, How::Expired, act, None)
     }
 
+    #[tactic(auto, using(crate::proofs::QuietCommands::commanding_quiet))]
     /// What an entry's body does at a place and log time.
     pub fn effect(&mut self, place: u64, time: u64, body: &Body) -> Result<Effect, NoMemory>
         requires { session_parts.LieBelow place self.old.table self.old.boxes }
@@ -217,15 +242,24 @@ impl Parts {
                 answered,
                 heard,
                 ..
-            } => Ok(self.keeping(time, *session, *answered, *heard)),
+            } => {
+                let state = self.table.state_of(*session);
+                Ok(self.keeping(time, *session, *answered, *heard, state))
+            }
             Body::Command {
                 session,
                 seq,
                 name,
                 op,
                 ..
-            } => self.commanding(*session, *seq, name, op),
-            Body::Close { session, .. } => self.closing(place, *session),
+            } => {
+                let state = self.table.state_of(*session);
+                self.commanding(*session, *seq, name, op, state)
+            }
+            Body::Close { session, .. } => {
+                let state = self.table.state_of(*session);
+                self.closing(place, *session, state)
+            }
             Body::Expire { session } => self.expiring(place, time, *session),
         }
     }

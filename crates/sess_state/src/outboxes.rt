@@ -125,6 +125,7 @@ impl Outboxes {
         Ok(())
     }
 
+    #[tactic(auto, using(crate::proofs::BoxAt::without_found, crate::proofs::BoxAt::without_none))]
     /// Lets go the outbox of a session.
     pub fn remove(&mut self, session: u64)
         ensures { self.new ≡ outbox.without_outbox self.old session }
@@ -134,6 +135,7 @@ impl Outboxes {
         }
     }
 
+    #[tactic(auto, using(crate::proofs::BoxAt::change_found, crate::proofs::BoxAt::change_none))]
     /// Lets go what the client of a session says that it has: replies up to `answered`, and batches up to `heard`.
     pub fn trim(&mut self, session: u64, answered: u64, heard: u64)
         ensures { self.new ≡ outbox.change_outbox (outbox.trimmed answered heard) session self.old }
@@ -144,6 +146,7 @@ impl Outboxes {
         }
     }
 
+    #[tactic(auto, using(crate::proofs::BoxAt::change_found, crate::proofs::BoxAt::change_none))]
     /// Keeps the reply of the next command of a session. Nothing changes after want of memory.
     pub fn keep_reply(&mut self, session: u64, kept: KeptReply) -> Result<(), NoMemory>
         requires { kept.seq ≡ outbox.last_seq self.old session + 1 }
@@ -158,6 +161,7 @@ impl Outboxes {
         Ok(())
     }
 
+    #[tactic(auto, using(crate::proofs::BoxAt::change_found, crate::proofs::BoxAt::change_none))]
     /// Keeps the events of a place as a batch of a session, and answers it; `None` where the session has no outbox.
     /// Nothing changes after want of memory.
     pub fn tell(

@@ -1,5 +1,5 @@
 //! What is told at a place, as one batch for each session.
-ghost use Rattle.std.specs.Prelude.{◌≡◌, ◌<◌, ◌++◌, IfOk, OnOk};
+ghost use Rattle.std.specs.Prelude.{◌≡◌, ℕ, ◌<◌, ◌++◌, IfOk, OnOk};
 ghost use Rattle.std.specs.List.{AllByRecursion};
 ghost use Rattle.spec_sessions.specs.Outboxes as outbox;
 ghost use Rattle.sess_state.specs.Batching as batching;
@@ -88,6 +88,17 @@ fn tell_in_order(
     Ok(batches)
 }
 
+/// What is told, by session: no session is told before one with a lower number, and each is told the same in the same
+/// order.
+fn by_session(told: List<(u64, Event)>) -> Result<VecDeque<(u64, Event)>, NoMemory>
+    ensures rise { IfOk result (λ sorted. batching.RiseBySession sorted.items) }
+    ensures same { IfOk result (λ sorted. (session : ℕ) → outbox.told_to session sorted.items ≡ outbox.told_to session told) }
+{
+    let mut sorted = told.into_vec();
+    sorted.sort_by_key(|told| told.0)?;
+    Ok(VecDeque::from_vec(sorted))
+}
+
 /// Tells each session with an outbox its events of a place, as one batch. Answers the batches, in ascending order of
 /// session. After want of memory some sessions may be told, and others not.
 pub fn tell_all(
@@ -104,7 +115,7 @@ pub fn tell_all(
     if told.is_empty() {
         return Ok(List::new(alloc));
     }
-    let mut sorted = told.into_vec();
-    sorted.sort_by_key(|told| told.0)?;
-    tell_in_order(alloc, boxes, place, VecDeque::from_vec(sorted))
+    let sorted = by_session(told)?;
+    let batches = tell_in_order(alloc, boxes, place, sorted)?;
+    Ok(batches)
 }
