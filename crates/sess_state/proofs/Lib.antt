@@ -3,3 +3,4 @@ pub mod InTurn
 pub mod SortedTold
 pub mod BelowNext
 pub mod QuietCommands
+pub mod BesideBook

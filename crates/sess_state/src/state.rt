@@ -96,9 +96,31 @@ impl SessState {
         requires { session_states.session_state self.now.sessions session ≢ state.Unknown }
         ensures { IfOk result (λ asked. asked ≡ session_states.asked self.now.sessions session name.now query.now) }
     {
-        if let SessionState::Ended { place, how } = self.state_of(session) {
-            return Ok(Asked::Ended { place, how });
+        let state = self.state_of(session);
+        self.ask_of(session, name, query, state)
+    }
+
+    /// What a query of a session in this state is answered.
+    fn ask_of(
+        &self,
+        session: u64,
+        name: &Name,
+        query: &Query,
+        state: SessionState,
+    ) -> Result<Asked, NoMemory>
+        ensures { IfOk result (λ asked. asked ≡ session_states.asked_of self.now.sessions session name.now query.now state) }
+    {
+        match state {
+            SessionState::Ended { place, how } => Ok(Asked::Ended { place, how }),
+            SessionState::Live => self.answer(session, name, query),
+            SessionState::Unknown => self.answer(session, name, query),
         }
+    }
+
+    /// The answer to a query, by the resources as they are.
+    fn answer(&self, session: u64, name: &Name, query: &Query) -> Result<Asked, NoMemory>
+        ensures { IfOk result (λ asked. asked ≡ session_states.asked_of self.now.sessions session name.now query.now state.Live) }
+    {
         Ok(Asked::Answer {
             place: self.applied,
             events: self.parts.boxes.last_batch(session),
@@ -121,15 +143,26 @@ impl SessState {
     }
 }
 
+/// Whether a session in this state has ended, or has carried out its commands up to `seq`, the last being `last`.
+fn is_done(state: SessionState, last: u64, seq: u64) -> bool
+    ensures { result ≡ session_states.is_done state last seq }
+{
+    match state {
+        SessionState::Unknown => false,
+        SessionState::Live => seq <= last,
+        SessionState::Ended { .. } => true,
+    }
+}
+
 impl Ready for SessState {
     ghost is_ready = { λ s session place seq. session_states.is_ready s.sessions session place seq };
 
     fn ready(&self, session: u64, place: u64, seq: u64) -> bool {
         place <= self.applied
-            && match self.state_of(session) {
-                SessionState::Unknown => false,
-                SessionState::Live => seq <= self.parts.boxes.last_seq(session),
-                SessionState::Ended { .. } => true,
-            }
+            && is_done(
+                self.state_of(session),
+                self.parts.boxes.last_seq(session),
+                seq,
+            )
     }
 }
