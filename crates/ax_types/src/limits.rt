@@ -96,9 +96,3 @@ pub const MAX_REPORT: usize = 67_108_864;
 
 /// Bytes of a journal's file that is read.
 pub const MAX_JOURNAL: u64 = 1_073_741_824;
-
-/// The term of what a store loads: a load above it counts as one that failed.
-pub const MAX_LOADED_TERM: u64 = 4_294_967_295;
-
-/// Entries of what a store loads: a load of more counts as one that failed.
-pub const MAX_LOADED: u64 = 16_777_215;

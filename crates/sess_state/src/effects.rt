@@ -2,7 +2,7 @@
 ghost use Rattle.std.specs.Prelude.{◌≡◌, IfOk, OnOk};
 ghost use Rattle.std.specs.Option.{option_copied};
 ghost use Rattle.ax_types.specs.declared.packets.Payload.TheVariants as payload;
-ghost use Rattle.ax_types.specs.declared.sessions.SessionState.TheVariants as state;
+ghost use Rattle.ax_types.specs.declared.sessions.SessionState.TheVariants as known;
 ghost use Rattle.spec_sessions.specs.Sessions as session_states;
 ghost use Rattle.spec_sessions.specs.Tables as tables;
 ghost use Rattle.sess_state.specs.SessionParts as session_parts;
@@ -179,7 +179,7 @@ impl Parts {
         act: Act,
         answer: Option<Payload>,
     ) -> Result<Effect, NoMemory>
-        requires { tables.state_of self.old.table session ≡ state.Live }
+        requires { tables.state_of self.old.table session ≡ known.Live }
         ensures effect { IfOk result (λ effect. effect ≡ session_parts.effect_of (session_states.ending (session_parts.of_parts self.old) place session how act answer)) }
         ensures after { OnOk result (self.new ≡ session_parts.parts_after self.old (session_states.ending (session_parts.of_parts self.old) place session how act answer)) }
     {

@@ -1,5 +1,5 @@
 ghost use Rattle.ax_types.specs.declared.limits.TheConstants.{MAX_TIMEOUT};
-ghost use Rattle.ax_types.specs.declared.sessions.SessionState.TheVariants as state;
+ghost use Rattle.ax_types.specs.declared.sessions.SessionState.TheVariants as known;
 ghost use Rattle.std.specs.Prelude.{◌≡◌, ◌≢◌, ◌+◌, ◌≤◌, true, false, IfOk, OnOk, OnErr};
 ghost use Rattle.spec_sessions.specs.Sessions as session_states;
 
@@ -93,7 +93,7 @@ impl SessState {
 
     /// What a query of a known session is answered.
     pub fn ask(&self, session: u64, name: &Name, query: &Query) -> Result<Asked, NoMemory>
-        requires { session_states.session_state self.now.sessions session ≢ state.Unknown }
+        requires { session_states.session_state self.now.sessions session ≢ known.Unknown }
         ensures { IfOk result (λ asked. asked ≡ session_states.asked self.now.sessions session name.now query.now) }
     {
         let state = self.state_of(session);
@@ -119,7 +119,7 @@ impl SessState {
 
     /// The answer to a query, by the resources as they are.
     fn answer(&self, session: u64, name: &Name, query: &Query) -> Result<Asked, NoMemory>
-        ensures { IfOk result (λ asked. asked ≡ session_states.asked_of self.now.sessions session name.now query.now state.Live) }
+        ensures { IfOk result (λ asked. asked ≡ session_states.asked_of self.now.sessions session name.now query.now known.Live) }
     {
         Ok(Asked::Answer {
             place: self.applied,
