@@ -7,7 +7,7 @@ use Rattle.std.proofs.lemmas.Bool.{ltb-true, ltb-false}
 use Rattle.std.proofs.lemmas.Bool.Decides.{nat_tests}
 use Rattle.std.proofs.lemmas.List.Folds.{find_at}
 use Rattle.std.proofs.lemmas.List.Quantifiers.{position-Some}
-use Rattle.std.proofs.lemmas.Option.{slice_get_past}
+use Rattle.std.proofs.lemmas.Option.{slice_get_past, slice_get_read}
 use Rattle.std.proofs.Math.ListN.{set}
 use Rattle.spec_sessions.specs.Outboxes as outboxes
 use Rattle.sess_state.specs.BoxOrder as box_order
@@ -263,3 +263,17 @@ Ascend-remove [] zero ascend = tt
 Ascend-remove [] (suc i) ascend = tt
 Ascend-remove (b ∷ boxes) zero ascend = Ascend-rest b.session boxes ascend
 Ascend-remove (b ∷ boxes) (suc i) ascend = AscendAbove-remove b.session boxes i ascend
+
+-- what was found at the place, what changing it there makes of all, and that sessions ascend then
+pub found_there : (n : ℕ) (boxes : List outboxes.Outbox) (i : ℕ) (o : outboxes.Outbox) → position (is_of n) boxes ≡ Some i → o ≡ get_or boxes i o → outboxes.outbox_of boxes n ≡ Some o
+found_there n boxes i o is there = box_at n boxes i is ∙ slice_get_read boxes (length boxes) i o refl (position-Some (is_of n) boxes i o is).0 there
+
+pub changed_there : (f : outboxes.Outbox → outboxes.Outbox) (n : ℕ) (boxes : List outboxes.Outbox) (i : ℕ) (o w : outboxes.Outbox) → box_order.Ascend boxes
+    → position (is_of n) boxes ≡ Some i → o ≡ get_or boxes i o → w ≡ f o → set boxes i w ≡ outboxes.change_outbox f n boxes
+changed_there f n boxes i o w ascend is there made =
+    ap (λ (b : outboxes.Outbox). set boxes i b) (made ∙ ap f there) ∙ sym (change_found f n boxes i o ascend is)
+
+pub ascend_there : (n : ℕ) (boxes : List outboxes.Outbox) (i : ℕ) (o w : outboxes.Outbox) → box_order.Ascend boxes → position (is_of n) boxes ≡ Some i → o ≡ get_or boxes i o
+    → w.session ≡ o.session → box_order.Ascend (set boxes i w)
+ascend_there n boxes i o w ascend is there same =
+    Ascend-set boxes i o w (same ∙ ap (λ (b : outboxes.Outbox). b.session) there) (position-Some (is_of n) boxes i o is).0 ascend
