@@ -1,0 +1,4 @@
+pub mod Ascending
+pub mod Asked
+pub mod States
+pub mod Conditions
