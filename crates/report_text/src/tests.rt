@@ -1,7 +1,7 @@
 use super::*;
 use ax_types::{
-    Act, ClientId, End, Event, Item, Key, Level, Life, List, MapOp, Name, NodeId, Op, Outcome,
-    PayloadKind, Reply, Report, RunEnd, SkipReason, Text, WatchKind, WindowCall,
+    Act, ClientId, Event, Item, Key, Level, Life, List, MapOp, Name, Op, Outcome, Reply, Report,
+    RunEnd, Text, WatchKind, WindowCall,
 };
 use std::alloc::Global;
 use std::test::Fail;
@@ -36,61 +36,6 @@ fn called(alloc: Global) -> Result<Item, Fail> {
         number: 1,
         call,
     })
-}
-
-fn reach() -> Result<Item, Fail> {
-    let node = NodeId::new(9).ok_or("no node")?;
-    Ok(Item::Reach {
-        node,
-        term: 2,
-        arrival: 3,
-        session: 4,
-        number: 5,
-    })
-}
-
-fn pending() -> Result<Item, Fail> {
-    let node = NodeId::new(9).ok_or("no node")?;
-    let client = ClientId::new(16).ok_or("no client")?;
-    Ok(Item::Pending {
-        number: 6,
-        from: End::Client(client),
-        to: End::Node(node),
-        kind: PayloadKind::Keep,
-    })
-}
-
-/// The line of an item.
-fn line(alloc: Global, item: &Item) -> Result<String, Fail> {
-    let mut text = Printout::new(alloc);
-    text.write_item(item)?;
-    Ok(text.into_string())
-}
-
-#[test]
-fn a_reach_has_a_line(rt: HostRuntime) -> Result<(), Fail> {
-    let reach = reach()?;
-    assert_eq!(rt; line(rt.alloc(), &reach)?.as_str(), "reach 9 2.3 4 5\n");
-    Ok(())
-}
-
-#[test]
-fn a_packet_has_a_line(rt: HostRuntime) -> Result<(), Fail> {
-    let pending = pending()?;
-    assert_eq!(rt;
-        line(rt.alloc(), &pending)?.as_str(),
-        "pending 6 c16 n9 Keep\n"
-    );
-    Ok(())
-}
-
-#[test]
-fn a_skip_has_a_line(rt: HostRuntime) -> Result<(), Fail> {
-    let skip = Item::Skip {
-        reason: SkipReason::Busy { unanswered: 1 },
-    };
-    assert_eq!(rt; line(rt.alloc(), &skip)?.as_str(), "skip busy 1\n");
-    Ok(())
 }
 
 #[test]
