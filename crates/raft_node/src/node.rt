@@ -171,7 +171,7 @@ impl RaftNode {
     }
 
     /// The time of a new entry: the greater of a clock and the time of the last entry (Ongaro 2014, 6.3).
-    pub(crate) fn time_for(&self, clock: u64) -> u64
+    pub fn time_for(&self, clock: u64) -> u64
         ensures { result ≡ raft_nodes.time_for self.now clock }
     {
         clock.max(self.log.last_time())
