@@ -21,8 +21,8 @@ use Rattle.rows_report.specs.ReportRows as report_rows
 abbrev pub add : ℕ → WindowCall
 add n = call.Command (codes "c") (op.Long (long_op.Add (pos n)))
 
-abbrev pub added : ℕ → Act
-added n = act.Do 2 (codes "c") (op.Long (long_op.Add (pos n)))
+abbrev pub add_act : ℕ → Act
+add_act n = act.Do 2 (codes "c") (op.Long (long_op.Add (pos n)))
 
 abbrev pub get : WindowCall
 get = call.Query level.Lin (codes "c") (query.Long long_query.Get)
@@ -51,7 +51,7 @@ wrong_number = record {
 abbrev pub long_history : audits.Audited
 long_history = record {
   items = report_rows.one_add_items;
-  history = open_history ((0, added 5) ∷ (0, act.Nothing) ∷ []);
+  history = open_history ((0, add_act 5) ∷ (0, act.Nothing) ∷ []);
   waiting = [];
 }
 
@@ -97,14 +97,14 @@ abbrev pub second_first : audits.Audited
 second_first = record {
   items = opened (item.Called 2 1 (add 1) ∷ item.Called 2 2 (add 2) ∷ item.Commit 3 ∷ item.Commit 4
       ∷ item.Reply 2 2 4 (reply.Number (pos 3)) ∷ item.Reply 2 1 3 (reply.Number (pos 1)) ∷ []);
-  history = open_history ((0, added 1) ∷ (0, added 2) ∷ []);
+  history = open_history ((0, add_act 1) ∷ (0, add_act 2) ∷ []);
   waiting = [];
 }
 
 abbrev pub no_doubt : audits.Audited
 no_doubt = record {
   items = opened (item.Called 2 1 (add 1) ∷ item.Commit 3 ∷ item.Commit 4 ∷ item.Ended 2 4 how.Expired ∷ []);
-  history = open_history ((0, added 1) ∷ (1000, act.Expire 2) ∷ []);
+  history = open_history ((0, add_act 1) ∷ (1000, act.Expire 2) ∷ []);
   waiting = (2, 1) ∷ [];
 }
 

@@ -10,27 +10,27 @@ ghost use Rattle.rows_audit.specs.BrokenReports as broken_reports;
 
 /// One client adds 5 to a long.
 pub fn one_add_is_faithful()
-    ensures { audits.audit 1000 faithful_reports.one_add ≡ verdict.Faithful }
+    ensures { audits.audit 1000 faithful_reports.of_one_add ≡ verdict.Faithful }
 {}
 
 /// The leader is lost after it committed a call, and the next one answers it.
 pub fn leader_lost_is_faithful()
-    ensures { audits.audit 1000 faithful_reports.leader_lost ≡ verdict.Faithful }
+    ensures { audits.audit 1000 faithful_reports.of_leader_lost ≡ verdict.Faithful }
 {}
 
 /// A batch of events is lost and sent again.
 pub fn lost_batch_is_faithful()
-    ensures { audits.audit 1000 faithful_reports.lost_batch ≡ verdict.Faithful }
+    ensures { audits.audit 1000 faithful_reports.of_lost_batch ≡ verdict.Faithful }
 {}
 
 /// A session expires with three calls unanswered.
 pub fn doubt_is_faithful()
-    ensures { audits.audit 1000 faithful_reports.doubt ≡ verdict.Faithful }
+    ensures { audits.audit 1000 faithful_reports.of_doubt ≡ verdict.Faithful }
 {}
 
 /// Two clients join a group, and one leaves and joins again.
 pub fn group_is_faithful()
-    ensures { audits.audit 1000 faithful_reports.group ≡ verdict.Faithful }
+    ensures { audits.audit 1000 faithful_reports.of_group ≡ verdict.Faithful }
 {}
 
 /// A session expires before its time.

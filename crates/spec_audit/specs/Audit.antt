@@ -70,24 +70,24 @@ sessions a = flat_map session_of_item a.items ++ sessions_from 1 a.history
 -- the conditions of the whole report, and those of each session
 abbrev pub whole_holds : ℕ → Audited → Clause → Bool
 whole_holds timeout a clause.Lawful = history_condition.is_lawful timeout a.history
-whole_holds timeout a clause.Right = item_conditions.each_item (item_conditions.is_right a.items a.history) a.items
+whole_holds timeout a clause.Right = item_conditions.each_shown (item_conditions.is_right a.items a.history) a.items
 whole_holds timeout a clause.Length = nat_eq (length a.history) (transcripts.greatest_commit a.items)
-whole_holds timeout a clause.Fresh = item_conditions.each_item item_conditions.is_fresh a.items
+whole_holds timeout a clause.Fresh = item_conditions.each_shown item_conditions.is_fresh a.items
 whole_holds timeout a clause.Waiting = same_values.are_same is_same_pair a.waiting (waiting_of_items a.items)
 whole_holds timeout a c = true
 
 abbrev pub session_holds : Audited → Clause → ℕ → Bool
 session_holds a clause.Once s = session_conditions.takes_effect_once a.items a.history s
-session_holds a clause.Growing s = item_conditions.each_item (session_conditions.is_growing a.history s) a.items
+session_holds a clause.Growing s = item_conditions.each_shown (session_conditions.is_growing a.history s) a.items
 session_holds a clause.Heard s = session_conditions.hears_in_order a.items a.history s
-session_holds a clause.Outcomes s = item_conditions.each_item (session_conditions.is_in_order s) a.items
+session_holds a clause.Outcomes s = item_conditions.each_shown (session_conditions.is_in_order s) a.items
 session_holds a clause.Ends s = session_conditions.ends_rightly a.items a.history s
 session_holds a c s = true
 
--- the least of some numbers
-abbrev pub least : List ℕ → Option ℕ
-least [] = None
-least (s ∷ ss) = Some (lesser s (least ss))
+-- the least of some sessions
+abbrev pub least_session : List ℕ → Option ℕ
+least_session [] = None
+least_session (s ∷ ss) = Some (lesser s (least_session ss))
   where
     lesser : ℕ → Option ℕ → ℕ
     lesser s None = s
@@ -95,7 +95,7 @@ least (s ∷ ss) = Some (lesser s (least ss))
 
 -- the session that breaks a condition: 0 where the condition is of the whole report
 abbrev pub broken_by : ℕ → Audited → Clause → Option ℕ
-broken_by timeout a c = if whole_holds timeout a c then least (filter (λ s. not (session_holds a c s)) (sessions a)) else Some 0
+broken_by timeout a c = if whole_holds timeout a c then least_session (filter (λ s. not (session_holds a c s)) (sessions a)) else Some 0
 
 -- the first that fails of some conditions
 abbrev pub or_later : Clause → Option ℕ → Verdict → Verdict

@@ -22,8 +22,8 @@ abbrev pub each_below : (List Item → Item → Bool) → List Item → List Ite
 each_below test above [] = true
 each_below test above (x ∷ xs) = test above x && each_below test (x ∷ above) xs
 
-abbrev pub each_item : (List Item → Item → Bool) → List Item → Bool
-each_item test items = each_below test [] items
+abbrev pub each_shown : (List Item → Item → Bool) → List Item → Bool
+each_shown test items = each_below test [] items
 
 abbrev pub is_opening_by : ℕ → Option (ℕ × Act) → Bool
 is_opening_by c None = false

@@ -27,7 +27,7 @@ is_called_before h s above x = true
 abbrev pub takes_effect_once : List Item → histories.History → ℕ → Bool
 takes_effect_once items h s =
     same_values.begins same_values.is_same_command (map (λ d. d.1) (histories.dos h s)) (once.commands s items)
-    && item_conditions.each_item (is_called_before h s) items
+    && item_conditions.each_shown (is_called_before h s) items
 
 -- growing: a read's place is not below that of a read above, and each command called before it took effect up to it
 abbrev pub is_read_upto : ℕ → ℕ → Item → Bool
@@ -54,7 +54,7 @@ is_after_events h s above x = true
 abbrev pub hears_in_order : List Item → histories.History → ℕ → Bool
 hears_in_order items h s =
     same_values.begins same_values.is_same_heard (heard.heard s items) (histories.events h s)
-    && item_conditions.each_item (is_after_events h s) items
+    && item_conditions.each_shown (is_after_events h s) items
 
 -- outcomes: calls carry 1, 2, 3 in order, those that were sent first; outcomes rise by the number of their call
 abbrev pub is_numbered : ℕ → List Item → Item → Bool
@@ -152,4 +152,4 @@ are_ends s left above [] = true
 are_ends s left above (x ∷ below) = is_ending s left above below x && are_ends s (left_below s left above x) (x ∷ above) below
 
 abbrev pub ends_rightly : List Item → histories.History → ℕ → Bool
-ends_rightly items h s = item_conditions.each_item (is_in_session h s) items && are_ends s 0 [] items
+ends_rightly items h s = item_conditions.each_shown (is_in_session h s) items && are_ends s 0 [] items
