@@ -1,0 +1,5 @@
+pub mod Lists
+pub mod Growth
+pub mod Chain
+pub mod Apart
+pub mod Named
