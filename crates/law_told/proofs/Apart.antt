@@ -1,6 +1,6 @@
 -- Sessions in a list, none of them twice.
-use Rattle.std.proofs.Common.{◌≡◌, ◌≢◌, ℕ, ◌<◌, zero, suc, Bool, true, false, cond, ◌||◌, List, [], ◌∷◌, ◌++◌, refl, sym, ap, ◌∙◌, subst, arith, map, nat_eq, nat_lt}
-use Rattle.std.specs.List.{AllByRecursion, list_any}
+use Rattle.std.proofs.Common.{◌≡◌, ◌≢◌, ℕ, ◌<◌, Bool, true, false, cond, ◌||◌, List, [], ◌∷◌, ◌++◌, refl, sym, ◌∙◌, arith, nat_eq, nat_lt}
+use Rattle.std.specs.List.{AllByRecursion}
 use Rattle.std.specs.declared.cmp.Ordering.{Ordering}
 use Rattle.std.specs.declared.cmp.Ordering.TheVariants.{Less, Equal, Greater}
 use Rattle.std.specs.Ordering.{match_ordering, is_eq, nat_cmp}
@@ -31,6 +31,7 @@ test_is s x = go (nat_lt s x) (nat_eq s x) refl refl
       where
         below : nat_lt s x ≡ true → s < x
         below h = grind (arith, nat_tests)
+
         equal : nat_eq s x ≡ true → s ≡ x
         equal h = grind (arith, nat_tests)
     go true false l e = refl

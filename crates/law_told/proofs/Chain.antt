@@ -1,5 +1,5 @@
 -- The batches of a session are a chain.
-use Rattle.std.proofs.Common.{◌≡◌, ℕ, zero, suc, ◌+◌, ◌-◌, ◌≤◌, ◌<◌, List, [], ◌∷◌, ◌++◌, Option, Some, None, length, refl, sym, ap, ◌∙◌, subst, arith}
+use Rattle.std.proofs.Common.{◌≡◌, ℕ, zero, suc, ◌+◌, ◌-◌, ◌≤◌, ◌<◌, List, [], ◌∷◌, ◌++◌, length, refl, sym, ap, ◌∙◌, arith}
 use Rattle.std.specs.List.{AllByRecursion}
 use Rattle.ax_types.specs.declared.replies.Event.{Event}
 use Rattle.spec_book.specs.History as histories
@@ -77,10 +77,10 @@ too_upto h s p m (e ∷ es) is a =
     let x : histories.Heard = record { place = suc m; prev = histories.last_place xs; events = e ∷ es } in
     let here : histories.last_told h s (suc m) ≡ suc m = ap (λ ts. histories.last_place (histories.heard_too (suc m) ts xs)) (sym is) ∙ last_is (xs ++ x ∷ []) ∙ last_added 0 xs x in
     let below : IsUpto h s p x = λ l.
-        let r = last_rises h s (suc m) (p - suc m) in
-        let z : p - suc m + suc m ≡ p = omega arith in
-        let k = ap (histories.last_told h s) z in
-        omega arith in
+    let r = last_rises h s (suc m) (p - suc m) in
+    let z : p - suc m + suc m ≡ p = omega arith in
+    let k = ap (histories.last_told h s) z in
+    omega arith in
     all_append (IsUpto h s p) xs (x ∷ []) a (below, tt)
 
 upto : (h : histories.History) (s p m : ℕ) → AllByRecursion (IsUpto h s p) (histories.heard_upto h s m)

@@ -1,16 +1,13 @@
 -- What is told of a history at a place stays so as the history grows.
-use Rattle.std.proofs.Common.{◌≡◌, ℕ, zero, suc, ◌+◌, ◌-◌, ◌≤◌, ◌<◌, Bool, true, false, cond, not, ◌&&◌, ◌||◌, nat_le, nat_eq, IsTrue, List, [], ◌∷◌, ◌++◌, Option, Some, None, length, take, drop, map, refl, sym, ap, ap₂, ◌∙◌, subst, arith, append-nil, append_assoc, le-leb, leb-true, inl, inr}
-use Rattle.std.specs.List.{AllByRecursion, list_any}
+use Rattle.std.proofs.Common.{◌≡◌, ℕ, zero, suc, ◌+◌, ◌-◌, ◌≤◌, Bool, true, false, not, ◌&&◌, nat_le, List, [], ◌∷◌, ◌++◌, Option, Some, None, length, take, refl, sym, ap, ap₂, ◌∙◌, arith, append-nil, append_assoc, leb-true}
+use Rattle.std.specs.List.{list_any}
 use Rattle.std.proofs.lemmas.List.{take-append-le}
-use Rattle.std.proofs.lemmas.List.Folds.{list_any-append}
 use Rattle.ax_types.specs.Places as lists
 use Rattle.ax_types.specs.declared.entries.Act.{Act}
-use Rattle.ax_types.specs.declared.replies.Turn.{Turn}
 use Rattle.ax_types.specs.declared.replies.Event.{Event}
 use Rattle.spec_book.specs.Book as books
 use Rattle.spec_book.specs.History as histories
-use Rattle.law_told.specs.Told as laws
-use Rattle.law_told.proofs.Lists.{all_since, all_append, by_last, at_within, at_end, at_some, take_all}
+use Rattle.law_told.proofs.Lists.{at_within, at_end, take_all}
 
 -- the book
 pub book_split : (done : ℕ) (book : books.Book) (h r : histories.History) → histories.book_after done book (h ++ r) ≡ histories.book_after (done + length h) (histories.book_after done book h) r
@@ -77,8 +74,7 @@ heard_more h s p zero = let e : 0 + p ≡ p = omega arith in ([], ap (histories.
 heard_more h s p (suc q) =
     let e : suc q + p ≡ suc (q + p) = omega arith in
     let m = heard_more h s p q in
-    let t = too_more (suc (q + p)) (histories.told_at h (suc (q + p)) s) (histories.heard_upto h s (q + p)) in
-    (
+    let t = too_more (suc (q + p)) (histories.told_at h (suc (q + p)) s) (histories.heard_upto h s (q + p)) in (
       m.0 ++ t.0,
       ap (histories.heard_upto h s) e ∙ t.1 ∙ ap (λ xs. xs ++ t.0) m.1 ∙ append_assoc (histories.heard_upto h s p) m.0 t.0,
     )

@@ -4,3 +4,4 @@ pub mod Chain
 pub mod Apart
 pub mod Telling
 pub mod Named
+pub mod Staying

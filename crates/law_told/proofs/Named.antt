@@ -1,6 +1,6 @@
 -- Only live sessions are told anything: a book names no others.
-use Rattle.std.proofs.Common.{◌≡◌, ◌≢◌, ◌⊎◌, ℕ, zero, suc, ◌+◌, ◌-◌, ◌≤◌, ◌<◌, Bool, true, false, cond, not, ◌&&◌, ◌||◌, nat_le, nat_eq, IsTrue, List, [], ◌∷◌, ◌++◌, Option, Some, None, length, take, drop, map, filter, refl, sym, ap, ap₂, ◌∙◌, subst, arith, append-nil, append_assoc, le-leb, leb-true, inl, inr, length-take-le}
-use Rattle.std.specs.List.{AllByRecursion, list_any}
+use Rattle.std.proofs.Common.{◌≡◌, ◌≢◌, ◌⊎◌, ℕ, zero, suc, ◌-◌, ◌≤◌, Bool, true, false, cond, not, ◌&&◌, ◌||◌, nat_le, nat_eq, IsTrue, List, [], ◌∷◌, ◌++◌, Option, Some, None, length, take, drop, map, filter, refl, sym, ap, ap₂, ◌∙◌, subst, arith, le-leb, inl, inr, length-take-le}
+use Rattle.std.specs.List.{list_any}
 use Rattle.std.proofs.lemmas.Bool.Decides.{nat_tests}
 use Rattle.std.proofs.lemmas.List.Folds.{list_any-append}
 use Rattle.ax_types.specs.Places as lists

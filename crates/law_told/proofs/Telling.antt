@@ -1,5 +1,5 @@
 -- Whom an act at a book tells: sessions that the book names.
-use Rattle.std.proofs.Common.{◌≡◌, ◌≢◌, ℕ, zero, suc, Bool, true, false, cond, ◌||◌, List, [], ◌∷◌, ◌++◌, Option, Some, None, ℤ, ◌+ℤ◌, refl, sym, ap, ◌∙◌, subst, map, nat_eq, filter, flat_map}
+use Rattle.std.proofs.Common.{◌≡◌, ◌≢◌, ℕ, Bool, true, false, cond, List, [], ◌∷◌, ◌++◌, Option, Some, None, ℤ, ◌+ℤ◌, refl, filter}
 use Rattle.std.specs.List.{AllByRecursion}
 use Rattle.std.specs.declared.cmp.Ordering.{Ordering}
 use Rattle.std.specs.declared.cmp.Ordering.TheVariants.{Less, Equal, Greater}
@@ -27,7 +27,6 @@ use Rattle.ax_types.specs.declared.ops.MultimapOp.{MultimapOp}
 use Rattle.ax_types.specs.declared.ops.MultimapOp.TheVariants as multimap
 use Rattle.ax_types.specs.declared.ops.TopicOp.{TopicOp}
 use Rattle.ax_types.specs.declared.ops.TopicOp.TheVariants as topic
-use Rattle.ax_types.specs.declared.entries.Act.{Act}
 use Rattle.ax_types.specs.declared.entries.Act.TheVariants as act
 use Rattle.ax_types.specs.declared.replies.Reply.{Reply}
 use Rattle.ax_types.specs.declared.replies.Reply.TheVariants as reply
@@ -344,11 +343,10 @@ all_end_told P place s (e ∷ book) h = all_append (λ t. ButOne P s t.0) (books
 pub ended_tells : (P : ℕ → Type 0) (place time s : ℕ) (book : books.Book) → AllMayTell P book → Gives (AllMayTell (ButOne P s)) (ButOne P s) (books.ended book place time s)
 ended_tells P place time s book h =
     let q = all_unlistened P s book h in
-    let l = all_yet_pass P s time (books.all_unlistened s book) q in
-    (
+    let l = all_yet_pass P s time (books.all_unlistened s book) q in (
       all_end P place s (books.pass time (books.all_unlistened s book)) l,
       all_append (λ t. ButOne P s t.0) (books.passed time (books.all_unlistened s book)) (books.left_told place s (books.pass time (books.all_unlistened s book))) (all_yet_passed P s time (books.all_unlistened s book) q)
-        (all_end_told P place s (books.pass time (books.all_unlistened s book)) l),
+          (all_end_told P place s (books.pass time (books.all_unlistened s book)) l),
     )
 
 -- a command of a session, and an act of none
