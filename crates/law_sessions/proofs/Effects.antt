@@ -1,5 +1,5 @@
 -- What each entry does: its act goes on with the history, and the table of sessions with it.
-use Rattle.std.proofs.Common.{◌≡◌, ◌≢◌, ◌⊎◌, ℕ, zero, suc, ◌+◌, ◌-◌, ◌≤◌, ◌<◌, Bool, true, false, cond, not, ◌&&◌, ◌||◌, nat_eq, nat_le, IsTrue, List, [], ◌∷◌, ◌++◌, Option, Some, None, length, map, find, filter, refl, sym, ap, ap₂, ◌∙◌, subst, arith, inl, inr, leb-true}
+use Rattle.std.proofs.Common.{◌≡◌, ◌⊎◌, ℕ, suc, ◌+◌, ◌-◌, ◌≤◌, ◌<◌, Bool, true, false, cond, not, ◌&&◌, ◌||◌, nat_eq, nat_le, List, [], ◌∷◌, ◌++◌, Option, Some, None, length, map, refl, sym, ap, ap₂, ◌∙◌, subst, arith, inl, inr, leb-true}
 use Rattle.std.specs.List.{AllByRecursion, list_any}
 use Rattle.std.proofs.lemmas.List.{map-append}
 use Rattle.std.proofs.lemmas.List.Folds.{list_any-append}
@@ -24,13 +24,13 @@ use Rattle.spec_sessions.specs.Tables as table
 use Rattle.spec_sessions.specs.Outboxes as outboxes
 use Rattle.spec_sessions.specs.Sessions as sessions
 use Rattle.spec_run.specs.KeptStores as kept_stores
-use Rattle.law_told.proofs.Lists.{by_test, all_since, all_append, at_within, at_end, at_some}
-use Rattle.law_told.proofs.Named.{IsLiveNow, live_now, OwnLive, live_kept, opened_within}
+use Rattle.law_told.proofs.Lists.{by_test, all_since, all_append, at_end, at_some}
+use Rattle.law_told.proofs.Named.{IsLiveNow, OwnLive, live_kept}
 use Rattle.law_told.proofs.Staying.{history_grows}
 use Rattle.law_sessions.specs.Acts as laws
 use Rattle.law_sessions.specs.Folds as folds
 use Rattle.law_sessions.proofs.Finding.{equal, unequal, is_equal, is_unequal, any_alike, without_alike, map_same, all_without, all_filter, all_map, any_without, first_same, second_same}
-use Rattle.law_sessions.proofs.Signs.{one_longer, sign_now, sign_next, sign_before, IsNew, is_new, WasLive, was_live}
+use Rattle.law_sessions.proofs.Signs.{sign_now, sign_next, sign_before, is_new, was_live}
 use Rattle.law_sessions.proofs.States.{IsLiveIn, IsPastIn, IsReplyIn, IsBoxIn, IsTableIn, HaveSame, IsStateOf, Found, is_session, is_box, live_found, past_found, found_seq, kept_found}
 
 -- the history with an act
@@ -73,7 +73,7 @@ row_within h l r = go (lists.at_place h l.session) refl r.opened
 past_stays : (h : histories.History) (a : ℕ × Act) (ps : List table.PastSession) → AllByRecursion (IsPastIn h) ps → AllByRecursion (IsPastIn (h ++ a ∷ [])) ps
 past_stays h a ps k = all_since (IsPastIn h) (IsPastIn (h ++ a ∷ [])) (λ p q. history_grows [] h (a ∷ []) 0 (payload.Ended p.session p.place p.how) q) ps k
 
-le_or : (a b : ℕ) → a ≤ suc b → (a ≤ b) ⊎ (a ≡ suc b)
+pub le_or : (a b : ℕ) → a ≤ suc b → (a ≤ b) ⊎ (a ≡ suc b)
 le_or a b l = go (nat_le a b) refl
   where
     go : (x : Bool) → nat_le a b ≡ x → (a ≤ b) ⊎ (a ≡ suc b)
@@ -119,7 +119,7 @@ no_answer : (h : histories.History) (client : Option ℕ) → AnswersTruly h cli
 no_answer h None c p e = absurd (cc)
 no_answer h (Some d) c p e = absurd (cc)
 
-true_answer : (h : histories.History) (client : Option ℕ) (q : Payload) → ((c : ℕ) → folds.IsTrueOf h c q) → AnswersTruly h client (Some q)
+pub true_answer : (h : histories.History) (client : Option ℕ) (q : Payload) → ((c : ℕ) → folds.IsTrueOf h c q) → AnswersTruly h client (Some q)
 true_answer h None q k c p e = absurd (cc)
 true_answer h (Some d) q k c p e = subst (λ x. folds.IsTrueOf h c x) (second_same d c q p e) (k c)
 
@@ -149,8 +149,8 @@ registered timeout es h s time term client opening r =
       sign = sym (sign_next h a (suc (length h)) ∙ ap (λ x. cond x time (sign_now h (suc (length h)))) (is_equal (suc (length h)) (0 + length h + 1) (sym m)));
     } in
     let old : (l : table.Live) → IsLiveIn h l → IsLiveIn (h ++ a ∷ []) l = λ l k.
-        let w = row_within h l k in
-        row_stays h a l l.sign refl (k.sign ∙ sym (ap (λ x. cond x time (sign_now h l.session)) (is_unequal l.session (0 + length h + 1) (λ e. absurd (omega arith))))) k in
+    let w = row_within h l k in
+    row_stays h a l l.sign refl (k.sign ∙ sym (ap (λ x. cond x time (sign_now h l.session)) (is_unequal l.session (0 + length h + 1) (λ e. absurd (omega arith))))) k in
     record {
       table = record {
         limit = r.table.limit;

@@ -1,18 +1,16 @@
 -- What one more act does to the signs, the acts and the events of sessions.
-use Rattle.std.proofs.Common.{◌≡◌, ◌≢◌, ℕ, zero, suc, ◌+◌, ◌-◌, ◌≤◌, ◌<◌, Bool, true, false, cond, not, ◌&&◌, ◌||◌, nat_eq, nat_le, IsTrue, List, [], ◌∷◌, ◌++◌, Option, Some, None, length, take, refl, sym, ap, ap₂, ◌∙◌, subst, arith, inl, inr, leb-true}
+use Rattle.std.proofs.Common.{◌≡◌, ◌≢◌, ℕ, zero, suc, ◌+◌, ◌-◌, ◌≤◌, ◌<◌, Bool, true, false, cond, not, ◌&&◌, ◌||◌, nat_eq, nat_le, List, [], ◌∷◌, ◌++◌, Option, Some, None, length, take, refl, sym, ap, ap₂, ◌∙◌, arith, inl, inr, leb-true}
 use Rattle.std.specs.List.{AllByRecursion, list_any}
 use Rattle.std.proofs.lemmas.List.{length-append, take-append-le}
 use Rattle.std.proofs.lemmas.List.Folds.{list_any-append}
 use Rattle.ax_types.specs.Places as lists
 use Rattle.ax_types.specs.declared.entries.Act.{Act}
 use Rattle.ax_types.specs.declared.entries.Act.TheVariants as act
-use Rattle.spec_book.specs.Book as books
 use Rattle.spec_book.specs.History as histories
 use Rattle.law_told.proofs.Lists.{at_within, at_end, at_some, by_last}
-use Rattle.law_told.proofs.Growth.{live_grown}
-use Rattle.law_told.proofs.Named.{IsLiveNow, live_now, live_end, OfLive, OwnLive, live_told, live_before, opened_within}
+use Rattle.law_told.proofs.Named.{IsLiveNow, OfLive, live_told, live_before, opened_within}
 use Rattle.law_told.proofs.Staying.{dos_grown}
-use Rattle.law_sessions.proofs.Finding.{unequal, is_unequal}
+use Rattle.law_sessions.proofs.Finding.{is_unequal}
 
 pub one_longer : {X : Type 0} (xs : List X) (x : X) → length (xs ++ x ∷ []) ≡ suc (length xs)
 one_longer xs x = let e = length-append xs (x ∷ []) in omega arith

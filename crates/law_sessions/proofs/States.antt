@@ -1,19 +1,15 @@
 -- A session state, beside the entries that it applied and their acts.
-use Rattle.std.proofs.Common.{◌≡◌, ◌≢◌, ℕ, zero, suc, ◌+◌, ◌-◌, ◌≤◌, ◌<◌, Bool, true, false, cond, not, ◌&&◌, ◌||◌, nat_eq, nat_le, IsTrue, List, [], ◌∷◌, ◌++◌, Option, Some, None, length, map, find, option_map, refl, sym, ap, ap₂, ◌∙◌, subst, arith, inl, inr}
+use Rattle.std.proofs.Common.{◌≡◌, ℕ, Bool, true, nat_eq, List, [], Option, Some, None, length, map, refl, sym, ap, ◌∙◌, subst}
 use Rattle.std.specs.List.{AllByRecursion, list_any}
 use Rattle.ax_types.specs.Places as lists
 use Rattle.ax_types.specs.declared.entries.Act.{Act}
-use Rattle.ax_types.specs.declared.entries.Act.TheVariants as act
 use Rattle.ax_types.specs.declared.entries.Batch.{Batch}
 use Rattle.ax_types.specs.declared.entries.Entry.{Entry}
 use Rattle.ax_types.specs.declared.ops.Op.{Op}
-use Rattle.ax_types.specs.declared.packets.Payload.{Payload}
 use Rattle.ax_types.specs.declared.packets.Payload.TheVariants as payload
 use Rattle.ax_types.specs.declared.replies.How.{How}
 use Rattle.ax_types.specs.declared.sessions.KeptReply.{KeptReply}
-use Rattle.ax_types.specs.declared.sessions.SessionState.{SessionState}
 use Rattle.ax_types.specs.declared.sessions.SessionState.TheVariants as state
-use Rattle.spec_book.specs.Book as books
 use Rattle.spec_book.specs.History as histories
 use Rattle.spec_claims.specs.Payloads as payloads
 use Rattle.spec_sessions.specs.Tables as table

@@ -10,9 +10,7 @@ use Rattle.ax_types.specs.declared.replies.How.{How}
 use Rattle.ax_types.specs.declared.replies.Reply.{Reply}
 use Rattle.ax_types.specs.declared.sessions.Applied.{Applied}
 use Rattle.ax_types.specs.declared.sessions.KeptReply.{KeptReply}
-use Rattle.ax_types.specs.declared.sessions.SessionState.{SessionState}
 use Rattle.ax_types.specs.declared.sessions.SessionState.TheVariants as state
-use Rattle.spec_book.specs.Book as books
 use Rattle.spec_book.specs.History as histories
 use Rattle.spec_claims.specs.Payloads as payloads
 use Rattle.spec_sessions.specs.Outboxes as outboxes
