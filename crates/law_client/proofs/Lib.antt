@@ -2,3 +2,5 @@ pub mod Lists
 pub mod Chain
 pub mod Shown
 pub mod Own
+pub mod Claims
+pub mod Responses

@@ -1,6 +1,6 @@
 -- Lists: counts, filters, tests and reverses, one more in front or at the end.
 use Rattle.std.proofs.Common.{◌≡◌, ℕ, suc, ◌+◌, cond, List, [], ◌∷◌, ◌++◌, map, reverse, refl, ap, sym, ◌∙◌, subst, inl, inr, arith, count_by, filter, flat_map, append_assoc, append-nil}
-use Rattle.std.specs.Prelude.{◌⊎◌, Bool, true, false, ◌&&◌, ◌||◌, not}
+use Rattle.std.specs.Prelude.{◌⊎◌, Bool, true, false, ◌&&◌, ◌||◌, not, Option, Some}
 use Rattle.std.specs.List.{AllByRecursion, list_any}
 use Rattle.std.proofs.lemmas.List.{reverse-append}
 use Rattle.std.proofs.lemmas.List.Sums.{sum_by-cons}
@@ -81,3 +81,15 @@ no_either true true = refl
 no_either true false = refl
 no_either false true = refl
 no_either false false = refl
+
+-- one of a list
+abbrev pub IsAmong : {X : Type 0} → X → List X → Type 0
+IsAmong x [] = ⊥
+IsAmong x (y ∷ ys) = (y ≡ x) ⊎ IsAmong x ys
+
+pub among_behind : {X : Type 0} (x : X) (xs ys : List X) → IsAmong x ys → IsAmong x (xs ++ ys)
+among_behind x [] ys a = a
+among_behind x (z ∷ xs) ys a = inr (among_behind x xs ys a)
+
+pub some_same : {X : Type 0} (x y : X) → Some x ≡ Some y → x ≡ y
+some_same x y e = cc

@@ -1,8 +1,9 @@
 -- The client's own session, one item more above.
-use Rattle.std.proofs.Common.{◌≡◌, ℕ, zero, suc, ◌+◌, ◌<◌, ◌≤◌, List, [], ◌∷◌, ◌++◌, map, reverse, length, refl, ap, sym, ◌∙◌, subst, inl, inr, ⊎_elim, arith, count_by, append_assoc, length-append}
-use Rattle.std.specs.Prelude.{◌⊎◌, Bool, true, false, ◌&&◌, nat_eq, nat_le, nat_lt, Option, Some, None, if◌then◌else◌}
+use Rattle.std.proofs.Common.{◌≡◌, ℕ, zero, suc, ◌+◌, ◌<◌, ◌≤◌, cond, List, [], ◌∷◌, ◌++◌, map, reverse, length, refl, ap, sym, ◌∙◌, subst, inl, inr, ⊎_elim, arith, count_by, filter, append_assoc, length-append}
+use Rattle.std.specs.Prelude.{◌⊎◌, Bool, true, false, not, ◌&&◌, nat_eq, nat_le, nat_lt, Option, Some, None, if◌then◌else◌}
 use Rattle.std.specs.List.{AllByRecursion}
 use Rattle.std.proofs.lemmas.List.{map-append}
+use Rattle.ax_types.specs.Places as lists
 use Rattle.ax_types.specs.declared.items.Item.{Item}
 use Rattle.ax_types.specs.declared.items.Item.TheVariants as item
 use Rattle.ax_types.specs.declared.ops.Level.{Level}
@@ -14,6 +15,7 @@ use Rattle.ax_types.specs.declared.replies.How.{How}
 use Rattle.ax_types.specs.declared.sessions.Got.{Got}
 use Rattle.spec_book.specs.History as histories
 use Rattle.spec_claims.specs.Transcript as transcripts
+use Rattle.spec_claims.specs.Once as claims_once
 use Rattle.spec_claims.specs.Right as claims_right
 use Rattle.spec_claims.specs.FreshReads as fresh_reads
 use Rattle.spec_claims.specs.Heard as claims_heard
@@ -23,10 +25,10 @@ use Rattle.spec_sequencer.specs.Sequencers as sequencers
 use Rattle.spec_client.specs.Clients as clients
 use Rattle.law_client.specs.Inputs as inputs
 use Rattle.law_client.specs.Standing as standing
-use Rattle.law_release.proofs.Tests.{by_test, on, off, on_or_off, equal, is_equal, is_unequal, is_above, is_not_below}
+use Rattle.law_release.proofs.Tests.{is_equal, is_at_most, is_above, is_below, is_not_below}
 use Rattle.law_client.proofs.Lists.{count_more, count_no, count_yes, reverse_more, all_since}
 use Rattle.law_client.proofs.Chain.{last_end, end_more}
-use Rattle.law_client.proofs.Shown.{ShowsNone, calls_same, upto_same, below_same, outcomes_same, outcomes_more, none_below, some_below, below_more, heard_more, heard_same, waiting_same, waiting_less, waiting_outcome, waiting_called}
+use Rattle.law_client.proofs.Shown.{ShowsNone, IsBlank, called_first, and_true, and_false, calls_same, upto_same, below_same, outcomes_same, outcomes_more, none_below, some_below, below_more, heard_more, heard_same, waiting_same, waiting_less, waiting_outcome, waiting_called}
 
 -- the commands counted up to and below a number, where the calls that are counted have numbers up to k
 pub record SameRanks (s k : ℕ) (x : Item) (above : List Item) : Type 0 where
@@ -48,7 +50,7 @@ got_more : (h : histories.History) (above : List Item) (x : Item) (s k : ℕ) (r
 got_more h above x s k r w None same l g = tt
 got_more h above x s k r (call.Command name o) (Some g) same l t = t
 got_more h above x s k r (call.Query lev name q) (Some g) same l t = record {
-  behind = subst (λ m. m ≤ _) (sym (same.below r.number l)) t.behind;
+  behind = subst (λ m. m ≤ claims_once.dos_upto h s g.place) (sym (same.below r.number l)) t.behind;
   live = t.live;
   last_event = t.last_event;
   answer = t.answer;
@@ -108,7 +110,7 @@ own_aside h c above s x n o =
       unanswered = count_no (outcome_order.is_unanswered s) x above n.unanswered ∙ o.unanswered;
       called = ap (λ k. k + count_by (outcome_order.is_unsent s) (x ∷ above)) many ∙ ap (λ k. length (transcripts.calls s above) + k) (count_no (outcome_order.is_unsent s) x above n.unsent) ∙ o.called;
       commands = ap (λ cs. count_by (λ w. transcripts.is_command w.1) cs) calls ∙ o.commands;
-      numbers = subst (λ cs. AllByRecursion (λ w. w.0 ≤ c.calls) cs) (sym calls) o.numbers;
+      numbers = subst standing.AreNumbered (sym calls) o.numbers;
       done = o.done;
       outcomes = outcomes_same s x above n.outcome ∙ o.outcomes;
       still = o.still;
@@ -170,7 +172,7 @@ own_outcome h c above s x u us r rs read now n le o =
       unanswered = count_no (outcome_order.is_unanswered s) x above n.unanswered ∙ o.unanswered;
       called = ap (λ k. k + count_by (outcome_order.is_unsent s) (x ∷ above)) many ∙ ap (λ k. length (transcripts.calls s above) + k) (count_no (outcome_order.is_unsent s) x above n.unsent) ∙ o.called;
       commands = ap (λ cs. count_by (λ w. transcripts.is_command w.1) cs) calls ∙ o.commands;
-      numbers = subst (λ cs. AllByRecursion (λ w. w.0 ≤ c.calls) cs) (sym calls) o.numbers;
+      numbers = subst standing.AreNumbered (sym calls) o.numbers;
       done = suc o.done;
       outcomes = outcomes_more s r.number x above n.outcome ∙ ap (λ k. suc k) o.outcomes;
       still = omega (arith, still);
@@ -228,17 +230,131 @@ own_unsent h c above s o none none_too =
       unanswered = o.unanswered;
       called = omega (arith, one, o.called);
       commands = o.commands;
-      numbers = all_since (λ w. w.0 ≤ c.calls) (λ w. w.0 ≤ suc c.calls) (λ w l. omega (arith, l)) (transcripts.calls s above) o.numbers;
+      numbers = o.numbers;
       done = suc o.done;
       outcomes = outcomes_more s (suc c.calls) x above out ∙ ap (λ k. suc k) o.outcomes;
       still = omega (arith, still);
       below = (some_below s (suc c.calls) (suc (suc o.done)) x out (omega (arith, still, zero_left)), below_more s (suc o.done) (suc (suc o.done)) (omega arith) above o.below);
       asked = subst (λ us. standing.AreAsked h (x ∷ above) s (suc o.done) us c.requests) (sym none_too) (subst (λ rs. standing.AreAsked h (x ∷ above) s (suc o.done) [] rs) (sym none) tt);
-      waiting = waiting_less s x above refl ∙ ap (λ cs. ?) (o.waiting ∙ ap (λ rs. map standing.asked_call rs) none) ∙ ap (λ rs. map standing.asked_call rs) (sym none);
+      waiting = waiting_less s x above refl ∙ ap (λ cs. filter (λ c. not (transcripts.is_outcome s c.0 x)) cs) (o.waiting ∙ ap (λ rs. map standing.asked_call rs) none) ∙ ap (λ rs. map standing.asked_call rs) (sym none);
       told = o.told;
       rest = o.rest;
       is_told = heard_same s x above refl ∙ o.is_told;
       whole = o.whole;
       last = o.last;
       reads = (tt, o.reads);
+    }
+
+pub all_low : (k : ℕ) (cs : List (ℕ × WindowCall)) → length cs ≤ k → standing.AreNumbered cs → AllByRecursion (λ w. w.0 ≤ k) cs
+all_low k [] l a = tt
+all_low k (c ∷ cs) l a = (omega (arith, l, a.0), all_low k cs (omega (arith, l)) a.1)
+
+-- the commands with numbers up to n, where all numbers are at most that
+upto_all : (n : ℕ) (cs : List (ℕ × WindowCall)) → AllByRecursion (λ w. w.0 ≤ n) cs → count_by (λ w. transcripts.is_command w.1 && nat_le w.0 n) cs ≡ count_by (λ w. transcripts.is_command w.1) cs
+upto_all n [] a = refl
+upto_all n (c ∷ cs) a =
+    count_more (λ w. transcripts.is_command w.1 && nat_le w.0 n) c cs
+    ∙ ap (λ b. cond b 1 0 + count_by (λ w. transcripts.is_command w.1 && nat_le w.0 n) cs) (ap (λ b. transcripts.is_command c.1 && b) (is_at_most c.0 n a.0) ∙ and_true (transcripts.is_command c.1))
+    ∙ ap (λ k. cond (transcripts.is_command c.1) 1 0 + k) (upto_all n cs a.1) ∙ sym (count_more (λ w. transcripts.is_command w.1) c cs)
+
+below_all : (n : ℕ) (cs : List (ℕ × WindowCall)) → AllByRecursion (λ w. w.0 ≤ n) cs → count_by (λ w. transcripts.is_command w.1 && nat_lt w.0 (suc n)) cs ≡ count_by (λ w. transcripts.is_command w.1) cs
+below_all n [] a = refl
+below_all n (c ∷ cs) a =
+    count_more (λ w. transcripts.is_command w.1 && nat_lt w.0 (suc n)) c cs
+    ∙ ap (λ b. cond b 1 0 + count_by (λ w. transcripts.is_command w.1 && nat_lt w.0 (suc n)) cs) (ap (λ b. transcripts.is_command c.1 && b) (is_below c.0 (suc n) (omega (arith, a.0))) ∙ and_true (transcripts.is_command c.1))
+    ∙ ap (λ k. cond (transcripts.is_command c.1) 1 0 + k) (below_all n cs a.1) ∙ sym (count_more (λ w. transcripts.is_command w.1) c cs)
+
+-- the ranks of a new call
+pub new_rank : (c above_calls : ℕ) (s : ℕ) (w : WindowCall) (above : List Item) → AllByRecursion (λ v. v.0 ≤ c) (transcripts.calls s above) → count_by (λ v. transcripts.is_command v.1) (transcripts.calls s above) ≡ above_calls
+    → transcripts.commands_upto s (suc c) (item.Called s (suc c) w ∷ above) ≡ cond (transcripts.is_command w) 1 0 + above_calls
+new_rank c above_calls s w above a e =
+    let test : ℕ × WindowCall → Bool = λ v. transcripts.is_command v.1 && nat_le v.0 (suc c) in
+    ap (λ cs. count_by test cs) (called_first s (suc c) w above) ∙ count_more test (suc c, w) (transcripts.calls s above)
+    ∙ ap (λ b. cond b 1 0 + count_by test (transcripts.calls s above)) (ap (λ b. transcripts.is_command w && b) (is_at_most (suc c) (suc c) (omega arith)) ∙ and_true (transcripts.is_command w))
+    ∙ ap (λ k. cond (transcripts.is_command w) 1 0 + k) (upto_all (suc c) (transcripts.calls s above) (all_since (λ v. v.0 ≤ c) (λ v. v.0 ≤ suc c) (λ v l. omega (arith, l)) (transcripts.calls s above) a) ∙ e)
+
+pub new_below : (c above_calls : ℕ) (s : ℕ) (w : WindowCall) (above : List Item) → AllByRecursion (λ v. v.0 ≤ c) (transcripts.calls s above) → count_by (λ v. transcripts.is_command v.1) (transcripts.calls s above) ≡ above_calls
+    → transcripts.commands_below s (suc c) (item.Called s (suc c) w ∷ above) ≡ above_calls
+new_below c above_calls s w above a e =
+    let test : ℕ × WindowCall → Bool = λ v. transcripts.is_command v.1 && nat_lt v.0 (suc c) in
+    ap (λ cs. count_by test cs) (called_first s (suc c) w above)
+    ∙ count_no test (suc c, w) (transcripts.calls s above) (ap (λ b. transcripts.is_command w && b) (is_not_below (suc c) (suc c) (omega arith)) ∙ and_false (transcripts.is_command w))
+    ∙ below_all c (transcripts.calls s above) a ∙ e
+
+-- a new call leaves the ranks of those before it
+called_ranks : (s k : ℕ) (w : WindowCall) (above : List Item) → SameRanks s k (item.Called s (suc k) w) above
+called_ranks s k w above = record {
+  upto = λ n l.
+      let test : ℕ × WindowCall → Bool = λ v. transcripts.is_command v.1 && nat_le v.0 n in
+      ap (λ cs. count_by test cs) (called_first s (suc k) w above)
+      ∙ count_no test (suc k, w) (transcripts.calls s above) (ap (λ b. transcripts.is_command w && b) (is_above (suc k) n (omega (arith, l))) ∙ and_false (transcripts.is_command w));
+  below = λ n l.
+      let test : ℕ × WindowCall → Bool = λ v. transcripts.is_command v.1 && nat_lt v.0 n in
+      ap (λ cs. count_by test cs) (called_first s (suc k) w above)
+      ∙ count_no test (suc k, w) (transcripts.calls s above) (ap (λ b. transcripts.is_command w && b) (is_not_below (suc k) n (omega (arith, l))) ∙ and_false (transcripts.is_command w));
+}
+
+-- the call of a command or of a query, of which the client counts so many commands then
+pub own_called : (h : histories.History) (c : clients.Client) (above : List Item) (s : ℕ) (seq : Option ℕ) (l : Option Level) (position m : ℕ) (w : WindowCall) → (o : standing.IsOwn h c above s)
+    → count_by (outcome_order.is_unsent s) above ≡ 0 → m ≡ cond (transcripts.is_command w) 1 0 + c.commands
+    → standing.IsAskedSo (item.Called s (suc c.calls) w ∷ above) s (record { number = suc c.calls; seq = seq; level = l; got = None }) (record { number = suc c.calls; seq = position; call = w }) w
+    → standing.IsOwn h (record (clients.with_request c seq l position w) { commands = m }) (item.Called s (suc c.calls) w ∷ above) s
+own_called h c above s seq l position m w o unsent many so =
+    let x = item.Called s (suc c.calls) w in
+    let u : sequencers.Unanswered = record { number = suc c.calls; seq = seq; level = l; got = None } in
+    let r : clients.Request = record { number = suc c.calls; seq = position; call = w } in
+    let calls : transcripts.calls s (x ∷ above) ≡ (suc c.calls, w) ∷ transcripts.calls s above = called_first s (suc c.calls) w above in
+    let long : length (transcripts.calls s (x ∷ above)) ≡ suc (length (transcripts.calls s above)) = ap (λ cs. length cs) calls in
+    let before : length (transcripts.calls s above) + count_by (outcome_order.is_unsent s) above ≡ c.calls = o.called in
+    let still : o.done + length c.sequencer.calls ≡ c.calls = o.still in
+    let i : standing.IsAsked h (x ∷ above) s u r = record { number = refl; called = inl refl; asked_so = so; got = tt } in
+    record {
+      opening = o.opening;
+      opened = o.opened;
+      unanswered = o.unanswered;
+      called = ap (λ k. k + count_by (outcome_order.is_unsent s) above) long ∙ omega (arith, before);
+      commands = ap (λ cs. count_by (λ v. transcripts.is_command v.1) cs) calls ∙ count_more (λ v. transcripts.is_command v.1) (suc c.calls, w) (transcripts.calls s above)
+          ∙ ap (λ k. cond (transcripts.is_command w) 1 0 + k) o.commands ∙ sym many;
+      numbers = subst standing.AreNumbered (sym calls) (omega (arith, before, unsent), o.numbers);
+      done = o.done;
+      outcomes = o.outcomes;
+      still = ap (λ k. o.done + k) (length-append c.sequencer.calls (u ∷ [])) ∙ omega (arith, still);
+      below = (tt, o.below);
+      asked = asked_push h (x ∷ above) s o.done c.sequencer.calls c.requests u r (asked_more h above x s c.calls o.done c.sequencer.calls c.requests (called_ranks s c.calls w above) (omega (arith, still)) o.asked)
+          (omega (arith, still)) i;
+      waiting = waiting_called s (suc c.calls) w x above (rw (is_equal s s refl) refl) refl (below_more s (suc o.done) (suc c.calls) (omega (arith, still)) above o.below)
+          ∙ ap (λ cs. cs ++ (suc c.calls, w) ∷ []) o.waiting ∙ sym (map-append standing.asked_call c.requests (r ∷ []));
+      told = o.told;
+      rest = o.rest;
+      is_told = heard_same s x above refl ∙ o.is_told;
+      whole = o.whole;
+      last = o.last;
+      reads = (tt, o.reads);
+    }
+
+-- a session that is new: nothing of it stands above its opening
+pub own_opened : (h : histories.History) (c : clients.Client) (above : List Item) (s : ℕ) → payloads.IsOpeningOf c.me c.switch.opening (lists.at_place h s) → IsBlank s above
+    → c.calls ≡ 0 → c.commands ≡ 0 → c.sequencer ≡ sequencers.new_sequencer s → c.requests ≡ []
+    → standing.IsOwn h c (item.Opened s c.me ∷ above) s
+own_opened h c above s is b calls commands fresh none =
+    let x = item.Opened s c.me in
+    record {
+      opening = is;
+      opened = count_yes (claims_right.is_opened s) x above (is_equal s s refl) ∙ ap (λ k. suc k) b.opened;
+      unanswered = b.unanswered;
+      called = ap (λ cs. length cs + count_by (outcome_order.is_unsent s) above) b.calls ∙ ap (λ k. 0 + k) b.unsent ∙ sym calls;
+      commands = ap (λ cs. count_by (λ w. transcripts.is_command w.1) cs) b.calls ∙ sym commands;
+      numbers = subst standing.AreNumbered (sym b.calls) tt;
+      done = 0;
+      outcomes = b.outcomes;
+      still = ap (λ (q : sequencers.Sequencer). 0 + length q.calls) fresh ∙ sym calls;
+      below = (tt, b.below);
+      asked = subst (λ (q : sequencers.Sequencer). standing.AreAsked h (x ∷ above) s 0 q.calls c.requests) (sym fresh) (subst (λ rs. standing.AreAsked h (x ∷ above) s 0 [] rs) (sym none) tt);
+      waiting = waiting_same s x above refl refl ∙ b.waiting ∙ ap (λ rs. map standing.asked_call rs) (sym none);
+      told = [];
+      rest = histories.events h s;
+      is_told = heard_same s x above refl ∙ b.heard;
+      whole = refl;
+      last = ap (λ (q : sequencers.Sequencer). q.heard) (sym fresh);
+      reads = subst (λ (q : sequencers.Sequencer). AllByRecursion (fresh_reads.IsUpto s q.read) (x ∷ above)) (sym fresh) (tt, b.reads);
     }

@@ -51,7 +51,18 @@ pub ended_aside : (s : ℕ) (x : Item) → IsAside s (inputs.session_in x) → o
 ended_aside s (item.Ended t p h) a = is_unequal s t a
 ended_aside s x a = refl
 
+pub and_true : (b : Bool) → (b && true) ≡ b
+and_true true = refl
+and_true false = refl
+
+pub and_false : (b : Bool) → (b && false) ≡ false
+and_false true = refl
+and_false false = refl
+
 -- calls
+pub called_first : (s n : ℕ) (w : WindowCall) (xs : List Item) → transcripts.calls s (item.Called s n w ∷ xs) ≡ (n, w) ∷ transcripts.calls s xs
+called_first s n w xs = rw (is_equal s s refl) refl
+
 pub calls_same : (s : ℕ) (x : Item) (xs : List Item) → transcripts.called_by s x ≡ [] → transcripts.calls s (x ∷ xs) ≡ transcripts.calls s xs
 calls_same s x xs e = ap (λ cs. cs ++ transcripts.calls s xs) e
 

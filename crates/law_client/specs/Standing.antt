@@ -73,6 +73,11 @@ AreAsked h above s done us rs = ⊥
 abbrev pub asked_call : clients.Request → ℕ × WindowCall
 asked_call r = (r.number, r.call)
 
+-- calls are numbered 1, 2, 3 from the last on
+abbrev pub AreNumbered : List (ℕ × WindowCall) → Type 0
+AreNumbered [] = Unit {0}
+AreNumbered (c ∷ cs) = (c.0 ≡ suc (length cs)) × AreNumbered cs
+
 -- the client's session, from its opening on
 pub record IsOwn (h : histories.History) (c : clients.Client) (above : List Item) (s : ℕ) : Type 0 where
   pub opening : payloads.IsOpeningOf c.me c.switch.opening (lists.at_place h s)
@@ -80,7 +85,7 @@ pub record IsOwn (h : histories.History) (c : clients.Client) (above : List Item
   pub unanswered : count_by (outcome_order.is_unanswered s) above ≡ 0
   pub called : length (transcripts.calls s above) + count_by (outcome_order.is_unsent s) above ≡ c.calls
   pub commands : count_by (λ w. transcripts.is_command w.1) (transcripts.calls s above) ≡ c.commands
-  pub numbers : AllByRecursion (λ w. w.0 ≤ c.calls) (transcripts.calls s above)
+  pub numbers : AreNumbered (transcripts.calls s above)
   -- how many outcomes there are
   pub done : ℕ
   pub outcomes : transcripts.outcome_count s above ≡ done
