@@ -4,3 +4,4 @@ pub mod Shown
 pub mod Own
 pub mod Claims
 pub mod Responses
+pub mod Steps

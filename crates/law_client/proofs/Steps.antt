@@ -29,6 +29,7 @@ use Rattle.ax_types.specs.declared.sessions.Heard.{Heard}
 use Rattle.ax_types.specs.declared.sessions.Heard.TheVariants as heard
 use Rattle.spec_book.specs.History as histories
 use Rattle.spec_claims.specs.Transcript as transcripts
+use Rattle.spec_claims.specs.Once as claims_once
 use Rattle.spec_claims.specs.Right as claims_right
 use Rattle.spec_claims.specs.Heard as claims_heard
 use Rattle.spec_claims.specs.OutcomeOrder as outcome_order
@@ -36,11 +37,11 @@ use Rattle.spec_claims.specs.Payloads as payloads
 use Rattle.spec_sequencer.specs.Sequencers as sequencers
 use Rattle.spec_client.specs.Clients as clients
 use Rattle.spec_client.specs.Receipts as receipts
-use Rattle.law_release.proofs.Tests.{by_test, on, on_or_off, equal, unequal, is_equal, not_below, both}
+use Rattle.law_release.proofs.Tests.{by_test, on, on_or_off, equal, unequal, is_equal, not_below, above as higher, both}
 use Rattle.law_client.specs.Inputs as inputs
 use Rattle.law_client.specs.Standing as standing
 use Rattle.law_client.specs.Promises as promises
-use Rattle.law_client.proofs.Lists.{all_since, all_append, reverse_more, reverse_onto, count_no, count_yes}
+use Rattle.law_client.proofs.Lists.{some_same, all_since, all_append, reverse_more, reverse_onto, count_more, count_no, count_yes}
 use Rattle.law_client.proofs.Chain.{IsChain, end_of, last_end, heard_chain, next_one}
 use Rattle.law_client.proofs.Shown.{IsAside, ShowsNone, IsBlank, aside, ended_aside, blank, heard_same}
 use Rattle.law_client.proofs.Own.{client_at, IsOutcomeOf, own_aside, own_outcome, own_event, own_unsent, own_called, own_opened, new_rank, new_below, all_low}
@@ -309,3 +310,337 @@ closes_keeps h c above k =
     let few : n ≤ 0 = not_below 0 n free in
     let none : c.requests ≡ [] = no_requests h above s own.0.done c.sequencer.calls c.requests own.0.asked (omega (arith, few)) in
     silent h c d above _ k refl (next_low c) (own_placed h c above s c.switch.server (state.Closing s) own.0, own.1, own.2, none))
+
+-- an opening names one client and one opening
+same_opening : (c d o p : ℕ) (a : Option (ℕ × Act)) → payloads.IsOpeningOf c o a → payloads.IsOpeningOf d p a → (c ≡ d) × (o ≡ p)
+same_opening c d o p None x y = absurd x
+same_opening c d o p (Some (time, act.Open e q)) x y = (x.0 ∙ sym y.0, x.1 ∙ sym y.1)
+same_opening c d o p (Some (time, act.Nothing)) x y = absurd x
+same_opening c d o p (Some (time, act.Keep s)) x y = absurd x
+same_opening c d o p (Some (time, act.Do s name op)) x y = absurd x
+same_opening c d o p (Some (time, act.Close s)) x y = absurd x
+same_opening c d o p (Some (time, act.Expire s)) x y = absurd x
+
+-- the items above are of other sessions than one that a new opening gave
+new_aside : (h : histories.History) (me next s : ℕ) (t : Option ℕ) → payloads.IsOpeningOf me next (lists.at_place h s) → standing.IsOld me next h t → IsAside s t
+new_aside h me next s None is o = tt
+new_aside h me next s (Some t) is o =
+    λ e.
+    let both_open : (me ≡ o.client) × (next ≡ o.opening) = same_opening me o.client next o.opening (lists.at_place h t) (subst (λ u. payloads.IsOpeningOf me next (lists.at_place h u)) e is) o.opened in
+    let less : o.opening < next = o.below both_open.0 in
+    let same : next ≡ o.opening = both_open.1 in
+    omega (arith, less, same)
+
+pub opened_keeps : (h : histories.History) (c : clients.Client) (above : List Item) (session opening : ℕ) → standing.Stands h (seat_of c above) → payloads.IsOpeningOf c.me opening (lists.at_place h session)
+    → (clients.is_opening c.state && sequencers.accepts c.switch opening) ≡ true → Kept h c above (receipts.takes_opened c session)
+opened_keeps h c above session opening k is takes =
+    let parts : (clients.is_opening c.state ≡ true) × (sequencers.accepts c.switch opening ≡ true) = both (clients.is_opening c.state) (sequencers.accepts c.switch opening) takes in
+    let number : opening ≡ c.switch.opening = equal opening c.switch.opening (both c.switch.is_open (nat_eq opening c.switch.opening) parts.1).1 in
+    let next : standing.next_opening c ≡ c.switch.opening = ap (λ b. if b then c.switch.opening else suc c.switch.opening) parts.0 in
+    let here : payloads.IsOpeningOf c.me c.switch.opening (lists.at_place h session) = subst (λ o. payloads.IsOpeningOf c.me o (lists.at_place h session)) number is in
+    let old : AllByRecursion (λ x. standing.IsOld c.me c.switch.opening h (inputs.session_in x)) above = subst (λ n. AllByRecursion (λ x. standing.IsOld c.me n h (inputs.session_in x)) above) next k.old in
+    let b : IsBlank session above = blank session above
+        (all_since (λ x. standing.IsOld c.me c.switch.opening h (inputs.session_in x)) (λ x. IsAside session (inputs.session_in x)) (λ x o. new_aside h c.me c.switch.opening session (inputs.session_in x) here o) above old) in
+    let d : clients.Client = record c { state = state.Live session; switch = sequencers.with_opened c.switch; calls = 0; commands = 0; sequencer = sequencers.new_sequencer session; requests = [] } in
+    let x = item.Opened session c.me in
+    let own : standing.IsOwn h d (x ∷ above) session = own_opened h d above session here b refl refl refl refl in
+    shows h c d above (x ∷ []) session _ k refl (next_low c) (omega arith) own (refl, tt) (own, b.ended, b.unsent) (opened_claimed h above session c.me c.switch.opening here b.opened, tt) tt
+
+-- responses end nothing
+responses_end : (s : ℕ) (above items : List Item) → AllByRecursion (IsResponse s) items → outcome_order.EndsStep above items
+responses_end s above [] a = tt
+responses_end s above (item.Reply t n p r ∷ items) a = responses_end s (item.Reply t n p r ∷ above) items a.1
+responses_end s above (item.Read t n l p reach r ∷ items) a = responses_end s (item.Read t n l p reach r ∷ above) items a.1
+responses_end s above (x ∷ items) a = absurd a.0
+
+response_of : (s : ℕ) (x : Item) → IsResponse s x → inputs.session_in x ≡ Some s
+response_of s (item.Reply t n p r) e = ap (λ u. Some u) e
+response_of s (item.Read t n l p reach r) e = ap (λ u. Some u) e
+response_of s x e = absurd e
+
+no_requests_left : (rs : List clients.Request) (us : List sequencers.Unanswered) → rs ≡ [] → receipts.requests_left rs us ≡ []
+no_requests_left rs us e = ap (λ qs. receipts.requests_left qs us) e
+
+-- an answer is taken: what may go then is given out
+pub answered_keeps : (h : histories.History) (c : clients.Client) (above : List Item) (n : ℕ) (g : Got) → standing.Stands h (seat_of c above) → clients.is_joined c.state ≡ true
+    → ((u : sequencers.Unanswered) (r : clients.Request) → standing.IsOwn h c above (clients.own_session c.state) → standing.IsAsked h above (clients.own_session c.state) u r → u.number ≡ n
+    → standing.IsTrueGot h above (clients.own_session c.state) r r.call (Some g))
+    → Kept h c above (receipts.releases (record c { sequencer = sequencers.with_answer c.sequencer n g }) [])
+answered_keeps h c above n g k open f =
+    let s = clients.own_session c.state in
+    let j : Joined h c above s = joined h c above c.state open k.own in
+    let d : clients.Client = record c { sequencer = sequencers.with_answer c.sequencer n g } in
+    let own : standing.IsOwn h d above s = own_answered h c above s n g j.own (λ u r i e. f u r j.own i e) in
+    let r : Released h above s (after_release d) (receipts.items_of d (sequencers.release_of d.sequencer).items) = release_keeps h d above s refl own j.ends j.unsent in
+    let items = receipts.items_of d (sequencers.release_of d.sequencer).items in
+    shows h c (after_release d) above items s _ k refl (omega arith) (omega (arith, joined_next c open)) r.own
+    (all_since (IsResponse s) (λ x. inputs.session_in x ≡ Some s) (λ x e. response_of s x e) items r.responses)
+    (joined_again h c (after_release d) above (reverse items ++ above) c.state open k.own (record { own = r.own; ends = r.ends; unsent = r.unsent }) (λ e. no_requests_left c.requests (sequencers.release_of d.sequencer).calls e))
+    r.claimed (responses_end s above items r.responses)
+
+-- an answer for a call that is found, unless it has one
+gets_keeps : (h : histories.History) (c : clients.Client) (above : List Item) (g : Got) (o : Option sequencers.Unanswered) → standing.Stands h (seat_of c above) → clients.is_joined c.state ≡ true
+    → ((v u : sequencers.Unanswered) (r : clients.Request) → o ≡ Some v → standing.IsOwn h c above (clients.own_session c.state) → standing.IsAsked h above (clients.own_session c.state) u r → u.number ≡ v.number
+    → standing.IsTrueGot h above (clients.own_session c.state) r r.call (Some g))
+    → Kept h c above (receipts.gets c o g)
+gets_keeps h c above g None k open f = ignored h c above k
+gets_keeps h c above g (Some v) k open f =
+    by_test (Kept h c above) (is_some v.got) (clients.ignores c) (receipts.releases (record c { sequencer = sequencers.with_answer c.sequencer v.number g }) []) (λ e. ignored h c above k)
+    (λ e. answered_keeps h c above v.number g k open (λ u r own i same. f v u r refl own i same))
+
+own_live : (c : clients.Client) (session : ℕ) → receipts.is_own_live c session ≡ true → (clients.is_joined c.state ≡ true) × (session ≡ clients.own_session c.state)
+own_live c session e =
+    let p : (clients.is_live_client c.state ≡ true) × (nat_eq session (clients.own_session c.state) ≡ true) = both (clients.is_live_client c.state) (nat_eq session (clients.own_session c.state)) e in
+    (ap (λ b. if b then true else clients.is_closing c.state) p.0, equal session (clients.own_session c.state) p.1)
+
+own_joined : (c : clients.Client) (session : ℕ) → receipts.is_own c session ≡ true → (clients.is_joined c.state ≡ true) × (session ≡ clients.own_session c.state)
+own_joined c session e =
+    let p : (clients.is_joined c.state ≡ true) × (nat_eq session (clients.own_session c.state) ≡ true) = both (clients.is_joined c.state) (nat_eq session (clients.own_session c.state)) e in
+    (p.0, equal session (clients.own_session c.state) p.1)
+
+has_seq : (seq : ℕ) (o : Option ℕ) → receipts.has_seq seq o ≡ true → o ≡ Some seq
+has_seq seq None e = absurd (on e)
+has_seq seq (Some n) e = ap (λ m. Some m) (equal n seq e)
+
+-- the sequence of a call that is a command
+seq_asked : (h : histories.History) (above : List Item) (s seq : ℕ) (u : sequencers.Unanswered) (r : clients.Request) (w : WindowCall) → standing.IsAskedSo above s u r w → u.seq ≡ Some seq
+    → (transcripts.is_command w ≡ true) × (seq ≡ transcripts.commands_upto s r.number above)
+seq_asked h above s seq u r (call.Command name o) a e = let f : Some seq ≡ Some r.seq = sym e ∙ a.0 in (refl, some_same seq r.seq f ∙ a.2)
+seq_asked h above s seq u r (call.Query l name q) a e = let f : Some seq ≡ None = sym e ∙ a.0 in absurd (cc)
+
+-- what a true reply says of each call of its number
+reply_got : (h : histories.History) (c : clients.Client) (above : List Item) (s seq place events : ℕ) (answer : Reply) (done : ℕ) (us : List sequencers.Unanswered) (rs : List clients.Request)
+    → standing.AreAsked h above s done us rs
+    → standing.IsTrueReply h s seq (record { place = place; events = events; reach = None; reply = answer })
+    → (v u : sequencers.Unanswered) (r : clients.Request) → receipts.asked_command us seq ≡ Some v → standing.IsOwn h c above s → standing.IsAsked h above s u r → u.number ≡ v.number
+    → standing.IsTrueGot h above s r r.call (Some (record { place = place; events = events; reach = None; reply = answer }))
+reply_got h c above s seq place events answer done us rs asked true_reply v u r is own i same =
+    let f : Found h above s (λ x. receipts.has_seq seq x.seq) v = found_pair h above s done (λ x. receipts.has_seq seq x.seq) us rs v asked is in
+    let number : r.number ≡ f.request.number = sym i.number ∙ same ∙ f.asked.number in
+    let call_same : r.call ≡ f.request.call = same_call h c above s r.number r.call f.request.call own i.called (subst (λ n. transcripts.StandsIn (item.Called s n f.request.call) above) (sym number) f.asked.called) in
+    let first : (transcripts.is_command f.request.call ≡ true) × (seq ≡ transcripts.commands_upto s f.request.number above) = seq_asked h above s seq v f.request f.request.call f.asked.asked_so (has_seq seq v.seq f.passes) in
+    of_call r.call (ap (λ w. transcripts.is_command w) call_same ∙ first.0) i.asked_so (first.1 ∙ ap (λ n. transcripts.commands_upto s n above) (sym number))
+  where
+    of_call : (w : WindowCall) → transcripts.is_command w ≡ true → standing.IsAskedSo above s u r w → seq ≡ transcripts.commands_upto s r.number above
+        → standing.IsTrueGot h above s r w (Some (record { place = place; events = events; reach = None; reply = answer }))
+    of_call (call.Command name o) e a rank = subst (λ n. standing.IsTrueReply h s n (record { place = place; events = events; reach = None; reply = answer })) (rank ∙ sym a.2) true_reply
+    of_call (call.Query l name q) e a rank = absurd (on e)
+
+pub reply_keeps : (h : histories.History) (c : clients.Client) (above : List Item) (session seq place events : ℕ) (answer : Reply) → standing.Stands h (seat_of c above)
+    → payloads.IsTruePayload above h c.me (payload.Reply session seq place events answer) → receipts.is_own_live c session ≡ true
+    → Kept h c above (receipts.gets c (receipts.asked_command c.sequencer.calls seq) (record { place = place; events = events; reach = None; reply = answer }))
+reply_keeps h c above session seq place events answer k is live =
+    let p = own_live c session live in
+    let s = clients.own_session c.state in
+    let g : Got = record { place = place; events = events; reach = None; reply = answer } in
+    let t : standing.IsTrueReply h s seq g = subst (λ u. standing.IsTrueReply h u seq g) p.1 (record { place = is.0; reply = is.1; last_event = is.2 }) in
+    gets_keeps h c above g (receipts.asked_command c.sequencer.calls seq) k p.0
+    (λ v u r e own i same. reply_got h c above s seq place events answer own.done c.sequencer.calls c.requests own.asked t v u r e own i same)
+
+reached_by : (above : List Item) (l : Level) (s n p term arrival : ℕ) → payloads.IsReachedAt l above s n p term arrival → standing.IsReachedBy l above s n p (receipts.reach_of l term arrival)
+reached_by above level.Lin s n p term arrival r = r
+reached_by above level.Seq s n p term arrival r = tt
+
+-- what a true answer says of each call of its number
+answer_got : (h : histories.History) (c : clients.Client) (above : List Item) (s number : ℕ) (l : Level) (place events term arrival : ℕ) (answer : Reply)
+    → payloads.IsTrueAnswer above h s number l place events term arrival answer
+    → (v u : sequencers.Unanswered) (r : clients.Request) → (nat_eq v.number number && receipts.has_level l v.level) ≡ true → standing.IsOwn h c above s → standing.IsAsked h above s u r → u.number ≡ v.number
+    → standing.IsTrueGot h above s r r.call (Some (record { place = place; events = events; reach = receipts.reach_of l term arrival; reply = answer }))
+answer_got h c above s number l place events term arrival answer t v u r passes own i same =
+    let g : Got = record { place = place; events = events; reach = receipts.reach_of l term arrival; reply = answer } in
+    let is : r.number ≡ number = sym i.number ∙ same ∙ equal v.number number (both (nat_eq v.number number) (receipts.has_level l v.level) passes).0 in
+    let call_same : r.call ≡ call.Query l t.name t.query = same_call h c above s number r.call (call.Query l t.name t.query) own (subst (λ n. transcripts.StandsIn (item.Called s n r.call) above) is i.called) t.called in
+    let read : standing.IsTrueRead h above s r.number l t.name t.query g = record {
+      behind = subst (λ n. transcripts.commands_below s n above ≤ claims_once.dos_upto h s place) (sym is) t.behind;
+      live = t.live;
+      last_event = t.last_event;
+      answer = t.answer;
+      reached = subst (λ n. standing.IsReachedBy l above s n place g.reach) (sym is) (reached_by above l s number place term arrival t.reached);
+    } in
+    subst (λ w. standing.IsTrueGot h above s r w (Some g)) (sym call_same) read
+
+pub answer_keeps : (h : histories.History) (c : clients.Client) (above : List Item) (session number : ℕ) (l : Level) (place events term arrival : ℕ) (answer : Reply) → standing.Stands h (seat_of c above)
+    → payloads.IsTruePayload above h c.me (payload.Answer session number l place events term arrival answer) → receipts.is_own_live c session ≡ true
+    → Kept h c above (receipts.gets c (receipts.asked_query c.sequencer.calls number l) (record { place = place; events = events; reach = receipts.reach_of l term arrival; reply = answer }))
+answer_keeps h c above session number l place events term arrival answer k is live =
+    let p = own_live c session live in
+    let s = clients.own_session c.state in
+    let t : payloads.IsTrueAnswer above h s number l place events term arrival answer = subst (λ u. payloads.IsTrueAnswer above h u number l place events term arrival answer) p.1 is in
+    gets_keeps h c above (record { place = place; events = events; reach = receipts.reach_of l term arrival; reply = answer }) (receipts.asked_query c.sequencer.calls number l) k p.0
+    (λ v u r e own i same.
+    let f : Found h above s (λ x. nat_eq x.number number && receipts.has_level l x.level) v = found_pair h above s own.done (λ x. nat_eq x.number number && receipts.has_level l x.level) c.sequencer.calls c.requests v own.asked e in
+    answer_got h c above s number l place events term arrival answer t v u r f.passes own i same)
+
+-- a batch that is the next one is heard, and what waited for it is given out
+taken_keeps : (h : histories.History) (c : clients.Client) (above : List Item) (b : Batch) → standing.Stands h (seat_of c above) → clients.is_joined c.state ≡ true
+    → payloads.IsHeardIn (record { place = b.place; prev = b.prev; events = b.events }) (histories.events h (clients.own_session c.state))
+    → c.sequencer.heard < b.place → b.prev ≡ c.sequencer.heard
+    → Kept h c above (receipts.releases (record c { sequencer = record c.sequencer { heard = b.place } }) (item.Event (clients.own_session c.state) b.place b.prev b.events ∷ []))
+taken_keeps h c above b k open told up follows =
+    let s = clients.own_session c.state in
+    let j : Joined h c above s = joined h c above c.state open k.own in
+    let o : standing.IsOwn h c above s = j.own in
+    let e : histories.Heard = record { place = b.place; prev = b.prev; events = b.events } in
+    let chain : IsChain 0 (o.told ++ o.rest) = subst (IsChain 0) o.whole (heard_chain h s (length h)).0 in
+    let last : c.sequencer.heard ≡ end_of 0 o.told = sym o.last ∙ last_end o.told in
+    let n = next_one 0 o.told o.rest e chain (subst (payloads.IsHeardIn e) o.whole told) (follows ∙ last) (subst (λ p. p < b.place) last up) in
+    let x = item.Event s b.place b.prev b.events in
+    let d : clients.Client = record c { sequencer = record c.sequencer { heard = b.place } } in
+    let own : standing.IsOwn h d (x ∷ above) s = own_event h c above s b.place b.prev b.events n.0 o n.1 in
+    let items = receipts.items_of d (sequencers.release_of d.sequencer).items in
+    let r : Released h (x ∷ above) s (after_release d) items = release_keeps h d (x ∷ above) s refl own j.ends j.unsent in
+    let back : reverse items ++ x ∷ above ≡ reverse (x ∷ items) ++ above = sym (reverse_onto x items above) in
+    let now : standing.IsOwn h (after_release d) (reverse (x ∷ items) ++ above) s = subst (λ ys. standing.IsOwn h (after_release d) ys s) back r.own in
+    shows h c (after_release d) above (x ∷ items) s _ k refl (omega arith) (omega (arith, joined_next c open)) now
+    (refl, all_since (IsResponse s) (λ y. inputs.session_in y ≡ Some s) (λ y a. response_of s y a) items r.responses)
+    (joined_again h c (after_release d) above (reverse (x ∷ items) ++ above) c.state open k.own
+      (record { own = now; ends = subst (λ ys. standing.HasEnds s ys 0) back r.ends; unsent = subst (λ ys. standing.HasUnsent s ys 0) back r.unsent })
+      (λ a. no_requests_left c.requests (sequencers.release_of d.sequencer).calls a))
+    (event_claimed h c above s b.place b.prev b.events o j.ends, r.claimed) (responses_end s (x ∷ above) items r.responses)
+
+pub batch_keeps : (h : histories.History) (c : clients.Client) (above : List Item) (node session : ℕ) (b : Batch) → standing.Stands h (seat_of c above)
+    → payloads.IsHeardIn (record { place = b.place; prev = b.prev; events = b.events }) (histories.events h session) → receipts.is_own c session ≡ true
+    → Kept h c above (receipts.takes_batch c node b (sequencers.heard_of c.sequencer b))
+batch_keeps h c above node session b k told is =
+    let p = own_joined c session is in
+    let s = clients.own_session c.state in
+    let q = c.sequencer in
+    let next : Heard = if nat_eq b.prev q.heard then heard.Taken else heard.Missing q.heard in
+    by_test (λ t. Kept h c above (receipts.takes_batch c node b t)) (nat_le b.place q.heard) heard.Old next (λ e. ignored h c above k)
+    (λ e. by_test (λ t. Kept h c above (receipts.takes_batch c node b t)) (nat_eq b.prev q.heard) heard.Taken (heard.Missing q.heard)
+    (λ f.
+    let is_taken : sequencers.heard_of q b ≡ heard.Taken = ap (λ (t : Bool). if t then heard.Old else next) e ∙ ap (λ (t : Bool). if t then heard.Taken else heard.Missing q.heard) f in
+    let after : sequencers.with_heard q b ≡ record q { heard = b.place } = ap (λ t. sequencers.heard_at t q b) is_taken in
+    subst (λ z. Kept h c above (receipts.releases (record c { sequencer = z }) (item.Event s b.place b.prev b.events ∷ []))) (sym after)
+    (taken_keeps h c above b k p.0 (subst (λ u. payloads.IsHeardIn (record { place = b.place; prev = b.prev; events = b.events }) (histories.events h u)) p.1 told) (higher b.place q.heard e) (equal b.prev q.heard f)))
+    (λ f. silent h c c above _ k refl (omega arith) k.own))
+
+-- what becomes of the calls without an outcome
+pub record Ends (h : histories.History) (c : clients.Client) (above : List Item) (s read : ℕ) (items : List Item) : Type 0 where
+  pub own : standing.IsOwn h (client_at c [] [] read) (reverse items ++ above) s
+  pub ends : standing.HasEnds s (reverse items ++ above) 1
+  pub claimed : transcripts.EachBelow (promises.IsClaimed h) above items
+
+end_outcome : (s read : ℕ) (u : sequencers.Unanswered) (n : ℕ) → u.number ≡ n → IsOutcomeOf s n read (receipts.outcome_at_end s u)
+end_outcome s read u n e =
+    by_test (IsOutcomeOf s n read) (sequencers.is_query u) (item.Lost s u.number) (item.Doubt s u.number)
+    (λ f. record { called = refl; outcome = ap (λ b. if b then Some u.number else None) (is_equal s s refl) ∙ ap (λ m. Some m) e; unsent = refl; unanswered = refl; opened = refl; heard = refl; upto = tt })
+    (λ f. record { called = refl; outcome = ap (λ b. if b then Some u.number else None) (is_equal s s refl) ∙ ap (λ m. Some m) e; unsent = refl; unanswered = refl; opened = refl; heard = refl; upto = tt })
+
+end_unended : (s t : ℕ) (u : sequencers.Unanswered) → outcome_order.is_ended t (receipts.outcome_at_end s u) ≡ false
+end_unended s t u = by_test (λ x. outcome_order.is_ended t x ≡ false) (sequencers.is_query u) (item.Lost s u.number) (item.Doubt s u.number) (λ e. refl) (λ e. refl)
+
+end_mine : (s : ℕ) (u : sequencers.Unanswered) → inputs.session_in (receipts.outcome_at_end s u) ≡ Some s
+end_mine s u = by_test (λ x. inputs.session_in x ≡ Some s) (sequencers.is_query u) (item.Lost s u.number) (item.Doubt s u.number) (λ e. refl) (λ e. refl)
+
+ends_mine : (s : ℕ) (us : List sequencers.Unanswered) → AreMine s (map (receipts.outcome_at_end s) us)
+ends_mine s [] = tt
+ends_mine s (u ∷ us) = (end_mine s u, ends_mine s us)
+
+all_end : (h : histories.History) (c : clients.Client) (above : List Item) (s read : ℕ) (us : List sequencers.Unanswered) (rs : List clients.Request) → standing.IsOwn h (client_at c us rs read) above s → standing.HasEnds s above 1
+    → Ends h c above s read (map (receipts.outcome_at_end s) us)
+all_end h c above s read [] [] o ends = record { own = o; ends = ends; claimed = tt }
+all_end h c above s read [] (r ∷ rs) o ends = absurd o.asked
+all_end h c above s read (u ∷ us) [] o ends = absurd o.asked
+all_end h c above s read (u ∷ us) (r ∷ rs) o ends =
+    let a : (r.number ≡ suc o.done) × standing.IsAsked h above s u r × standing.AreAsked h above s (suc o.done) us rs = o.asked in
+    let i : standing.IsAsked h above s u r = a.1 in
+    let y = receipts.outcome_at_end s u in
+    let items = map (receipts.outcome_at_end s) us in
+    let now : standing.IsOwn h (client_at c us rs read) (y ∷ above) s = own_outcome h c above s y u us r rs read read (end_outcome s read u r.number i.number) (omega arith) o in
+    let more : Ends h c (y ∷ above) s read items = all_end h c (y ∷ above) s read us rs now (count_no (outcome_order.is_ended s) y above (end_unended s s u) ∙ ends) in
+    let back : reverse items ++ y ∷ above ≡ reverse (y ∷ items) ++ above = sym (reverse_onto y items above) in
+    record {
+      own = subst (λ ys. standing.IsOwn h (client_at c [] [] read) ys s) back more.own;
+      ends = subst (λ ys. standing.HasEnds s ys 1) back more.ends;
+      claimed = (end_claimed h above s u.number u (next_of h (client_at c (u ∷ us) (r ∷ rs) read) above s u.number o (i.number ∙ a.0)), more.claimed);
+    }
+
+doubted_as : (s : ℕ) (above : List Item) (u : sequencers.Unanswered) (r : clients.Request) (w : WindowCall) → standing.IsAskedSo above s u r w → u.number ≡ r.number
+    → receipts.outcome_at_end s u ≡ outcome_order.doubted s (r.number, w)
+doubted_as s above u r (call.Command name o) a e = ap (λ q. if not (is_some q) then item.Lost s u.number else item.Doubt s u.number) a.0 ∙ ap (λ n. item.Doubt s n) e
+doubted_as s above u r (call.Query l name q) a e = ap (λ z. if not (is_some z) then item.Lost s u.number else item.Doubt s u.number) a.0 ∙ ap (λ n. item.Lost s n) e
+
+all_doubted : (h : histories.History) (above : List Item) (s done : ℕ) (us : List sequencers.Unanswered) (rs : List clients.Request) → standing.AreAsked h above s done us rs
+    → map (receipts.outcome_at_end s) us ≡ map (outcome_order.doubted s) (map standing.asked_call rs)
+all_doubted h above s done [] [] a = refl
+all_doubted h above s done [] (r ∷ rs) a = absurd a
+all_doubted h above s done (u ∷ us) [] a = absurd a
+all_doubted h above s done (u ∷ us) (r ∷ rs) a =
+    let i : standing.IsAsked h above s u r = a.1 in
+    ap (λ x. x ∷ map (receipts.outcome_at_end s) us) (doubted_as s above u r r.call i.asked_so i.number)
+    ∙ ap (λ xs. outcome_order.doubted s (r.number, r.call) ∷ xs) (all_doubted h above s (suc done) us rs a.2)
+
+-- an end that stands above is counted
+end_counts : (s p : ℕ) (way : How) (above : List Item) → transcripts.StandsIn (item.Ended s p way) above → standing.HasEnds s above 0 → ⊥
+end_counts s p way [] a e = a
+end_counts s p way (x ∷ above) (inl is) e =
+    let one : count_by (outcome_order.is_ended s) (x ∷ above) ≡ suc (count_by (outcome_order.is_ended s) above) = count_yes (outcome_order.is_ended s) x above (ap (λ y. outcome_order.is_ended s y) is ∙ is_equal s s refl) in
+    omega (arith, one, e)
+end_counts s p way (x ∷ above) (inr a) e =
+    let more : count_by (outcome_order.is_ended s) (x ∷ above) ≡ cond (outcome_order.is_ended s x) 1 0 + count_by (outcome_order.is_ended s) above = count_more (outcome_order.is_ended s) x above in
+    end_counts s p way above a (omega (arith, more, e))
+
+-- where the client has asked for the close, nothing lacks an outcome
+closed_none : (h : histories.History) (c : clients.Client) (above : List Item) (s : ℕ) → standing.OwnStands h c above c.state → standing.HasEnds s above 0 → inputs.HasClosed (seat_of c above) s → c.requests ≡ []
+closed_none h c above s own ends (inl e) = (subst (standing.OwnStands h c above) e own).3
+closed_none h c above s own ends (inr (p, way, a)) = absurd (end_counts s p way above a ends)
+
+ends_step : (h : histories.History) (c : clients.Client) (above : List Item) (s place : ℕ) (way : How) → (o : standing.IsOwn h c above s) → standing.HasEnds s above 0 → standing.OwnStands h c above c.state
+    → inputs.IsAskedEnd (seat_of c above) (payload.Ended s place way)
+    → outcome_order.EndsStep above (item.Ended s place way ∷ map (receipts.outcome_at_end s) c.sequencer.calls)
+ends_step h c above s place how.Expired o ends own asked =
+    all_doubted h above s o.done c.sequencer.calls c.requests o.asked ∙ ap (λ cs. map (outcome_order.doubted s) cs) (sym o.waiting)
+ends_step h c above s place how.Closed o ends own asked =
+    let none : c.requests ≡ [] = closed_none h c above s own ends asked in
+    let no_more : c.sequencer.calls ≡ [] = no_calls h above s o.done c.sequencer.calls c.requests o.asked none in
+    (
+      o.waiting ∙ ap (λ rs. map standing.asked_call rs) none,
+      subst (λ us. outcome_order.EndsStep (item.Ended s place how.Closed ∷ above) (map (receipts.outcome_at_end s) us)) (sym no_more) tt,
+    )
+
+pub ended_keeps : (h : histories.History) (c : clients.Client) (above : List Item) (session place : ℕ) (way : How) → standing.Stands h (seat_of c above)
+    → outcome_order.IsEndOf session way (lists.at_place h place) → inputs.IsAskedEnd (seat_of c above) (payload.Ended session place way) → receipts.is_own c session ≡ true
+    → Kept h c above (receipts.takes_end c session place way)
+ended_keeps h c above session place way k is asked own_it =
+    let p = own_joined c session own_it in
+    let j : Joined h c above session = subst (λ s. Joined h c above s) (sym p.1) (joined h c above c.state p.0 k.own) in
+    let x = item.Ended session place way in
+    let none : ShowsNone session x = record { called = refl; outcome = refl; unsent = refl; unanswered = refl; opened = refl; heard = refl; upto = λ n. tt } in
+    let own : standing.IsOwn h c (x ∷ above) session = own_aside h c above session x none j.own in
+    let one : standing.HasEnds session (x ∷ above) 1 = count_yes (outcome_order.is_ended session) x above (is_equal session session refl) ∙ ap (λ n. suc n) j.ends in
+    let items = map (receipts.outcome_at_end session) c.sequencer.calls in
+    let e : Ends h c (x ∷ above) session c.sequencer.read items = all_end h c (x ∷ above) session c.sequencer.read c.sequencer.calls c.requests own one in
+    let back : reverse items ++ x ∷ above ≡ reverse (x ∷ items) ++ above = sym (reverse_onto x items above) in
+    let now : standing.IsOwn h (client_at c [] [] c.sequencer.read) (reverse (x ∷ items) ++ above) session = subst (λ ys. standing.IsOwn h (client_at c [] [] c.sequencer.read) ys session) back e.own in
+    let d : clients.Client = record c { state = state.Ended session; sequencer = record c.sequencer { calls = [] }; requests = [] } in
+    let last : standing.IsOwn h d (reverse (x ∷ items) ++ above) session = own_placed h (client_at c [] [] c.sequencer.read) (reverse (x ∷ items) ++ above) session c.switch.server (state.Ended session) now in
+    shows h c d above (x ∷ items) session [] k refl (next_low c) (omega arith) last (refl, ends_mine session c.sequencer.calls)
+    (last, subst (λ ys. standing.HasEnds session ys 1) back e.ends, refl)
+    (ended_claimed h c above session place way j.own j.ends is, e.claimed)
+    (ends_step h c above session place way j.own j.ends k.own asked)
+
+-- a payload that is true
+pub receives_keeps : (h : histories.History) (c : clients.Client) (above : List Item) (node : ℕ) (p : Payload) → standing.Stands h (seat_of c above) → payloads.IsTruePayload above h c.me p → inputs.IsAskedEnd (seat_of c above) p
+    → Kept h c above (receipts.receives c node p)
+receives_keeps h c above node (payload.Opened opening session) k is asked =
+    by_test (Kept h c above) (clients.is_opening c.state && sequencers.accepts c.switch opening) (receipts.takes_opened c session) (clients.ignores c)
+    (λ e. opened_keeps h c above session opening k is e) (λ e. ignored h c above k)
+receives_keeps h c above node (payload.Reply session seq place events answer) k is asked =
+    by_test (Kept h c above) (receipts.is_own_live c session) (receipts.gets c (receipts.asked_command c.sequencer.calls seq) (record { place = place; events = events; reach = None; reply = answer })) (clients.ignores c)
+    (λ e. reply_keeps h c above session seq place events answer k is e) (λ e. ignored h c above k)
+receives_keeps h c above node (payload.Answer session number l place events term arrival answer) k is asked =
+    by_test (Kept h c above) (receipts.is_own_live c session)
+    (receipts.gets c (receipts.asked_query c.sequencer.calls number l) (record { place = place; events = events; reach = receipts.reach_of l term arrival; reply = answer })) (clients.ignores c)
+    (λ e. answer_keeps h c above session number l place events term arrival answer k is e) (λ e. ignored h c above k)
+receives_keeps h c above node (payload.Gap session last) k is asked =
+    by_test (Kept h c above) (receipts.is_own_live c session) (clients.client_step c [] (clients.to_server c (receipts.gap_of c last))) (clients.ignores c)
+    (λ e. silent h c c above (clients.to_server c (receipts.gap_of c last)) k refl (omega arith) k.own) (λ e. ignored h c above k)
+receives_keeps h c above node (payload.Batch session place prev events) k is asked =
+    let b : Batch = record { place = place; prev = prev; events = events } in
+    by_test (Kept h c above) (receipts.is_own c session) (receipts.takes_batch c node b (sequencers.heard_of c.sequencer b)) (clients.ignores c)
+    (λ e. batch_keeps h c above node session b k is e) (λ e. ignored h c above k)
+receives_keeps h c above node (payload.Ended session place way) k is asked =
+    by_test (Kept h c above) (receipts.is_own c session) (receipts.takes_end c session place way) (clients.ignores c)
+    (λ e. ended_keeps h c above session place way k is asked e) (λ e. ignored h c above k)
+receives_keeps h c above node p k is asked = ignored h c above k
