@@ -5,3 +5,4 @@ pub mod Own
 pub mod Claims
 pub mod Responses
 pub mod Steps
+pub mod Promises

@@ -57,8 +57,9 @@ pub record Kept (h : histories.History) (c : clients.Client) (above : List Item)
   pub stands : standing.Stands h (record { client = next.client; above = reverse next.out.items ++ above })
   pub claimed : transcripts.EachBelow (promises.IsClaimed h) above next.out.items
   pub ends : outcome_order.EndsStep above next.out.items
+  pub me : next.client.me ≡ c.me
 
-abbrev seat_of : clients.Client → List Item → inputs.Seat
+abbrev pub seat_of : clients.Client → List Item → inputs.Seat
 seat_of c above = record { client = c; above = above }
 
 old_since : (me a b : ℕ) (h : histories.History) (s : Option ℕ) → a ≤ b → standing.IsOld me a h s → standing.IsOld me b h s
@@ -79,6 +80,7 @@ silent h c d above sends k me l own = record {
   };
   claimed = tt;
   ends = tt;
+  me = me;
 }
 
 pub ignored : (h : histories.History) (c : clients.Client) (above : List Item) → standing.Stands h (seat_of c above) → Kept h c above (clients.ignores c)
@@ -121,6 +123,7 @@ shows h c d above items s sends k me l m own mine stands claimed ends = record {
   };
   claimed = claimed;
   ends = ends;
+  me = me;
 }
 
 -- states
@@ -312,7 +315,7 @@ closes_keeps h c above k =
     silent h c d above _ k refl (next_low c) (own_placed h c above s c.switch.server (state.Closing s) own.0, own.1, own.2, none))
 
 -- an opening names one client and one opening
-same_opening : (c d o p : ℕ) (a : Option (ℕ × Act)) → payloads.IsOpeningOf c o a → payloads.IsOpeningOf d p a → (c ≡ d) × (o ≡ p)
+pub same_opening : (c d o p : ℕ) (a : Option (ℕ × Act)) → payloads.IsOpeningOf c o a → payloads.IsOpeningOf d p a → (c ≡ d) × (o ≡ p)
 same_opening c d o p None x y = absurd x
 same_opening c d o p (Some (time, act.Open e q)) x y = (x.0 ∙ sym y.0, x.1 ∙ sym y.1)
 same_opening c d o p (Some (time, act.Nothing)) x y = absurd x
@@ -366,16 +369,16 @@ pub answered_keeps : (h : histories.History) (c : clients.Client) (above : List 
     → ((u : sequencers.Unanswered) (r : clients.Request) → standing.IsOwn h c above (clients.own_session c.state) → standing.IsAsked h above (clients.own_session c.state) u r → u.number ≡ n
     → standing.IsTrueGot h above (clients.own_session c.state) r r.call (Some g))
     → Kept h c above (receipts.releases (record c { sequencer = sequencers.with_answer c.sequencer n g }) [])
-answered_keeps h c above n g k open f =
+answered_keeps h c above n g k here f =
     let s = clients.own_session c.state in
-    let j : Joined h c above s = joined h c above c.state open k.own in
+    let j : Joined h c above s = joined h c above c.state here k.own in
     let d : clients.Client = record c { sequencer = sequencers.with_answer c.sequencer n g } in
     let own : standing.IsOwn h d above s = own_answered h c above s n g j.own (λ u r i e. f u r j.own i e) in
     let r : Released h above s (after_release d) (receipts.items_of d (sequencers.release_of d.sequencer).items) = release_keeps h d above s refl own j.ends j.unsent in
     let items = receipts.items_of d (sequencers.release_of d.sequencer).items in
-    shows h c (after_release d) above items s _ k refl (omega arith) (omega (arith, joined_next c open)) r.own
+    shows h c (after_release d) above items s _ k refl (omega arith) (omega (arith, joined_next c here)) r.own
     (all_since (IsResponse s) (λ x. inputs.session_in x ≡ Some s) (λ x e. response_of s x e) items r.responses)
-    (joined_again h c (after_release d) above (reverse items ++ above) c.state open k.own (record { own = r.own; ends = r.ends; unsent = r.unsent }) (λ e. no_requests_left c.requests (sequencers.release_of d.sequencer).calls e))
+    (joined_again h c (after_release d) above (reverse items ++ above) c.state here k.own (record { own = r.own; ends = r.ends; unsent = r.unsent }) (λ e. no_requests_left c.requests (sequencers.release_of d.sequencer).calls e))
     r.claimed (responses_end s above items r.responses)
 
 -- an answer for a call that is found, unless it has one
@@ -383,10 +386,10 @@ gets_keeps : (h : histories.History) (c : clients.Client) (above : List Item) (g
     → ((v u : sequencers.Unanswered) (r : clients.Request) → o ≡ Some v → standing.IsOwn h c above (clients.own_session c.state) → standing.IsAsked h above (clients.own_session c.state) u r → u.number ≡ v.number
     → standing.IsTrueGot h above (clients.own_session c.state) r r.call (Some g))
     → Kept h c above (receipts.gets c o g)
-gets_keeps h c above g None k open f = ignored h c above k
-gets_keeps h c above g (Some v) k open f =
+gets_keeps h c above g None k here f = ignored h c above k
+gets_keeps h c above g (Some v) k here f =
     by_test (Kept h c above) (is_some v.got) (clients.ignores c) (receipts.releases (record c { sequencer = sequencers.with_answer c.sequencer v.number g }) []) (λ e. ignored h c above k)
-    (λ e. answered_keeps h c above v.number g k open (λ u r own i same. f v u r refl own i same))
+    (λ e. answered_keeps h c above v.number g k here (λ u r own i same. f v u r refl own i same))
 
 own_live : (c : clients.Client) (session : ℕ) → receipts.is_own_live c session ≡ true → (clients.is_joined c.state ≡ true) × (session ≡ clients.own_session c.state)
 own_live c session e =
@@ -476,9 +479,9 @@ taken_keeps : (h : histories.History) (c : clients.Client) (above : List Item) (
     → payloads.IsHeardIn (record { place = b.place; prev = b.prev; events = b.events }) (histories.events h (clients.own_session c.state))
     → c.sequencer.heard < b.place → b.prev ≡ c.sequencer.heard
     → Kept h c above (receipts.releases (record c { sequencer = record c.sequencer { heard = b.place } }) (item.Event (clients.own_session c.state) b.place b.prev b.events ∷ []))
-taken_keeps h c above b k open told up follows =
+taken_keeps h c above b k here told up follows =
     let s = clients.own_session c.state in
-    let j : Joined h c above s = joined h c above c.state open k.own in
+    let j : Joined h c above s = joined h c above c.state here k.own in
     let o : standing.IsOwn h c above s = j.own in
     let e : histories.Heard = record { place = b.place; prev = b.prev; events = b.events } in
     let chain : IsChain 0 (o.told ++ o.rest) = subst (IsChain 0) o.whole (heard_chain h s (length h)).0 in
@@ -491,9 +494,9 @@ taken_keeps h c above b k open told up follows =
     let r : Released h (x ∷ above) s (after_release d) items = release_keeps h d (x ∷ above) s refl own j.ends j.unsent in
     let back : reverse items ++ x ∷ above ≡ reverse (x ∷ items) ++ above = sym (reverse_onto x items above) in
     let now : standing.IsOwn h (after_release d) (reverse (x ∷ items) ++ above) s = subst (λ ys. standing.IsOwn h (after_release d) ys s) back r.own in
-    shows h c (after_release d) above (x ∷ items) s _ k refl (omega arith) (omega (arith, joined_next c open)) now
+    shows h c (after_release d) above (x ∷ items) s _ k refl (omega arith) (omega (arith, joined_next c here)) now
     (refl, all_since (IsResponse s) (λ y. inputs.session_in y ≡ Some s) (λ y a. response_of s y a) items r.responses)
-    (joined_again h c (after_release d) above (reverse (x ∷ items) ++ above) c.state open k.own
+    (joined_again h c (after_release d) above (reverse (x ∷ items) ++ above) c.state here k.own
       (record { own = now; ends = subst (λ ys. standing.HasEnds s ys 0) back r.ends; unsent = subst (λ ys. standing.HasUnsent s ys 0) back r.unsent })
       (λ a. no_requests_left c.requests (sequencers.release_of d.sequencer).calls a))
     (event_claimed h c above s b.place b.prev b.events o j.ends, r.claimed) (responses_end s (x ∷ above) items r.responses)

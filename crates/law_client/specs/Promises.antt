@@ -85,6 +85,7 @@ pub record StepKeeps (h : histories.History) (seat : inputs.Seat) (x : inputs.Ha
   pub stands : standing.Stands h (inputs.happened seat x)
   pub claimed : EachStep (transcripts.EachBelow (IsClaimed h)) seat (x ∷ [])
   pub ends : EachStep outcome_order.EndsStep seat (x ∷ [])
+  pub me : (inputs.happened seat x).client.me ≡ seat.client.me
 
 abbrev pub EachStepKeeps : Type 0
 EachStepKeeps = (h : histories.History) (seat : inputs.Seat) (x : inputs.Happening) → standing.Stands h seat → inputs.MayHappen h seat x → StepKeeps h seat x
