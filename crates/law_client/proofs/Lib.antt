@@ -6,3 +6,4 @@ pub mod Claims
 pub mod Responses
 pub mod Steps
 pub mod Promises
+pub mod Example

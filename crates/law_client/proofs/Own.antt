@@ -107,6 +107,7 @@ own_aside h c above s x n o =
     record {
       opening = o.opening;
       opened = count_no (claims_right.is_opened s) x above n.opened ∙ o.opened;
+      there = inr o.there;
       unanswered = count_no (outcome_order.is_unanswered s) x above n.unanswered ∙ o.unanswered;
       called = ap (λ k. k + count_by (outcome_order.is_unsent s) (x ∷ above)) many ∙ ap (λ k. length (transcripts.calls s above) + k) (count_no (outcome_order.is_unsent s) x above n.unsent) ∙ o.called;
       commands = ap (λ cs. count_by (λ w. transcripts.is_command w.1) cs) calls ∙ o.commands;
@@ -169,6 +170,7 @@ own_outcome h c above s x u us r rs read now n le o =
     record {
       opening = o.opening;
       opened = count_no (claims_right.is_opened s) x above n.opened ∙ o.opened;
+      there = inr o.there;
       unanswered = count_no (outcome_order.is_unanswered s) x above n.unanswered ∙ o.unanswered;
       called = ap (λ k. k + count_by (outcome_order.is_unsent s) (x ∷ above)) many ∙ ap (λ k. length (transcripts.calls s above) + k) (count_no (outcome_order.is_unsent s) x above n.unsent) ∙ o.called;
       commands = ap (λ cs. count_by (λ w. transcripts.is_command w.1) cs) calls ∙ o.commands;
@@ -197,6 +199,7 @@ own_event h c above s p prev es more o is =
     record {
       opening = o.opening;
       opened = o.opened;
+      there = inr o.there;
       unanswered = o.unanswered;
       called = o.called;
       commands = o.commands;
@@ -227,6 +230,7 @@ own_unsent h c above s o none none_too =
     record {
       opening = o.opening;
       opened = o.opened;
+      there = inr o.there;
       unanswered = o.unanswered;
       called = omega (arith, one, o.called);
       commands = o.commands;
@@ -311,6 +315,7 @@ own_called h c above s seq l position m w o unsent many so =
     record {
       opening = o.opening;
       opened = o.opened;
+      there = inr o.there;
       unanswered = o.unanswered;
       called = ap (λ k. k + count_by (outcome_order.is_unsent s) above) long ∙ omega (arith, before);
       commands = ap (λ cs. count_by (λ v. transcripts.is_command v.1) cs) calls ∙ count_more (λ v. transcripts.is_command v.1) (suc c.calls, w) (transcripts.calls s above)
@@ -341,6 +346,7 @@ own_opened h c above s is b calls commands fresh none =
     record {
       opening = is;
       opened = count_yes (claims_right.is_opened s) x above (is_equal s s refl) ∙ ap (λ k. suc k) b.opened;
+      there = inl refl;
       unanswered = b.unanswered;
       called = ap (λ cs. length cs + count_by (outcome_order.is_unsent s) above) b.calls ∙ ap (λ k. 0 + k) b.unsent ∙ sym calls;
       commands = ap (λ cs. count_by (λ w. transcripts.is_command w.1) cs) b.calls ∙ sym commands;

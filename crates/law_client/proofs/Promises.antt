@@ -25,7 +25,7 @@ use Rattle.law_client.proofs.Steps.{Kept, seat_of, same_opening, opens_keeps, ca
 pub new_client_stands : promises.NewClientStands
 new_client_stands h me = record { old = tt; own = tt; heard = λ s opening is. (histories.events h s, refl) }
 
-input_keeps : (h : histories.History) (c : clients.Client) (above : List Item) (i : inputs.Input) → standing.Stands h (seat_of c above) → inputs.MayReach h (seat_of c above) i → Kept h c above (inputs.stepped c i)
+pub input_keeps : (h : histories.History) (c : clients.Client) (above : List Item) (i : inputs.Input) → standing.Stands h (seat_of c above) → inputs.MayReach h (seat_of c above) i → Kept h c above (inputs.stepped c i)
 input_keeps h c above (inputs.Opens node) k m = opens_keeps h c above node k
 input_keeps h c above (inputs.Calls name o) k m = calls_keeps h c above name o k
 input_keeps h c above (inputs.Queries l name q) k m = queries_keeps h c above l name q k

@@ -222,6 +222,7 @@ pub own_with : (h : histories.History) (c : clients.Client) (above : List Item) 
 own_with h c above s read seen us vs rs many asked o = record {
   opening = o.opening;
   opened = o.opened;
+  there = o.there;
   unanswered = o.unanswered;
   called = o.called;
   commands = o.commands;

@@ -58,6 +58,7 @@ pub record Kept (h : histories.History) (c : clients.Client) (above : List Item)
   pub claimed : transcripts.EachBelow (promises.IsClaimed h) above next.out.items
   pub ends : outcome_order.EndsStep above next.out.items
   pub me : next.client.me ≡ c.me
+  pub owner : AllByRecursion (λ x. standing.IsOfOwn next.client.me h (reverse next.out.items ++ above) (inputs.session_in x)) next.out.items
 
 abbrev pub seat_of : clients.Client → List Item → inputs.Seat
 seat_of c above = record { client = c; above = above }
@@ -81,6 +82,7 @@ silent h c d above sends k me l own = record {
   claimed = tt;
   ends = tt;
   me = me;
+  owner = tt;
 }
 
 pub ignored : (h : histories.History) (c : clients.Client) (above : List Item) → standing.Stands h (seat_of c above) → Kept h c above (clients.ignores c)
@@ -101,6 +103,10 @@ mine_old : (h : histories.History) (me next s opening : ℕ) (xs : List Item) �
 mine_old h me next s opening [] is l a = tt
 mine_old h me next s opening (x ∷ xs) is l a =
     (subst (standing.IsOld me next h) (sym a.0) (record { client = me; opening = opening; opened = is; below = λ e. l }), mine_old h me next s opening xs is l a.1)
+
+mine_owned : (h : histories.History) (me s : ℕ) (below : List Item) (xs : List Item) → standing.IsOpenedFor me h below s → AreMine s xs → AllByRecursion (λ x. standing.IsOfOwn me h below (inputs.session_in x)) xs
+mine_owned h me s below [] o a = tt
+mine_owned h me s below (x ∷ xs) o a = (subst (standing.IsOfOwn me h below) (sym a.0) o, mine_owned h me s below xs o a.1)
 
 pub shows : (h : histories.History) (c d : clients.Client) (above items : List Item) (s : ℕ) (sends : List (ℕ × Payload)) → standing.Stands h (seat_of c above) → d.me ≡ c.me
     → standing.next_opening c ≤ standing.next_opening d → d.switch.opening < standing.next_opening d
@@ -124,6 +130,7 @@ shows h c d above items s sends k me l m own mine stands claimed ends = record {
   claimed = claimed;
   ends = ends;
   me = me;
+  owner = mine_owned h d.me s (reverse items ++ above) items (record { opening = d.switch.opening; opened = own.opening; there = own.there }) mine;
 }
 
 -- states
@@ -192,6 +199,7 @@ own_placed : (h : histories.History) (c : clients.Client) (above : List Item) (s
 own_placed h c above s server t o = record {
   opening = o.opening;
   opened = o.opened;
+  there = o.there;
   unanswered = o.unanswered;
   called = o.called;
   commands = o.commands;

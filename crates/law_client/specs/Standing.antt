@@ -82,6 +82,7 @@ AreNumbered (c ∷ cs) = (c.0 ≡ suc (length cs)) × AreNumbered cs
 pub record IsOwn (h : histories.History) (c : clients.Client) (above : List Item) (s : ℕ) : Type 0 where
   pub opening : payloads.IsOpeningOf c.me c.switch.opening (lists.at_place h s)
   pub opened : count_by (claims_right.is_opened s) above ≡ 1
+  pub there : transcripts.StandsIn (item.Opened s c.me) above
   pub unanswered : count_by (outcome_order.is_unanswered s) above ≡ 0
   pub called : length (transcripts.calls s above) + count_by (outcome_order.is_unsent s) above ≡ c.calls
   pub commands : count_by (λ w. transcripts.is_command w.1) (transcripts.calls s above) ≡ c.commands
@@ -129,6 +130,16 @@ pub record IsOpenedBelow (me next : ℕ) (h : histories.History) (s : ℕ) : Typ
 abbrev pub IsOld : ℕ → ℕ → histories.History → Option ℕ → Type 0
 IsOld me next h None = Unit {0}
 IsOld me next h (Some s) = IsOpenedBelow me next h s
+
+-- the history opens the session for the client, and its opening stands among the items
+pub record IsOpenedFor (me : ℕ) (h : histories.History) (items : List Item) (s : ℕ) : Type 0 where
+  pub opening : ℕ
+  pub opened : payloads.IsOpeningOf me opening (lists.at_place h s)
+  pub there : transcripts.StandsIn (item.Opened s me) items
+
+abbrev pub IsOfOwn : ℕ → histories.History → List Item → Option ℕ → Type 0
+IsOfOwn me h items None = ⊥
+IsOfOwn me h items (Some s) = IsOpenedFor me h items s
 
 abbrev pub HasHeard : histories.History → List Item → ℕ → Type 0
 HasHeard h above s = claims_once.Begins (claims_heard.heard s (reverse above)) (histories.events h s)

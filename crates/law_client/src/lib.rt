@@ -2,6 +2,7 @@
 //! with repeats and losses, as long as what reaches it is true of one history.
 #![tactic(auto)]
 
+ghost use Rattle.law_client.specs.Example as examples;
 ghost use Rattle.law_client.specs.Promises as promises;
 
 /// A new client stands to the items above it and to any history as its steps keep it.
@@ -58,4 +59,14 @@ pub fn each_step_ends_as_told()
 /// So it is in all that one client alone shows.
 pub fn sessions_end_as_told()
     ensures { promises.SessionsEndAsTold }
+{}
+
+/// Something meets the premises of these laws: what happens in the example may happen.
+pub fn example_may_happen()
+    ensures { examples.ExampleMayHappen }
+{}
+
+/// A run of a client: what it shows among the commits, answers out of order and twice.
+pub fn example_shows()
+    ensures { examples.ExampleShows }
 {}
