@@ -1,6 +1,6 @@
 -- What is claimed of each item that a client gives, from how it stands.
-use Rattle.std.proofs.Common.{◌≡◌, ℕ, zero, suc, ◌+◌, ◌<◌, ◌≤◌, List, [], ◌∷◌, ◌++◌, map, reverse, length, refl, ap, sym, ◌∙◌, subst, inl, inr, ⊎_elim, arith, count_by}
-use Rattle.std.specs.Prelude.{◌⊎◌, Bool, true, false, not, nat_eq, is_some, Option, Some, None, option_map, if◌then◌else◌}
+use Rattle.std.proofs.Common.{◌≡◌, ℕ, suc, ◌+◌, ◌≤◌, List, ◌∷◌, ◌++◌, length, refl, ap, sym, ◌∙◌, subst, ⊎_elim, arith, count_by}
+use Rattle.std.specs.Prelude.{true, not, nat_eq, is_some, Option, Some, None, option_map, if◌then◌else◌}
 use Rattle.std.specs.List.{AllByRecursion}
 use Rattle.ax_types.specs.Places as lists
 use Rattle.ax_types.specs.declared.entries.Act.{Act}
@@ -29,10 +29,9 @@ use Rattle.spec_client.specs.Receipts as receipts
 use Rattle.law_client.specs.Standing as standing
 use Rattle.law_client.specs.Promises as promises
 use Rattle.law_release.proofs.Tests.{by_test, on_or_off, equal}
-use Rattle.law_client.proofs.Lists.{all_since}
 use Rattle.law_client.proofs.Chain.{IsChain, end_of, last_end, heard_chain, all_heard, covers, all_in}
 use Rattle.law_client.proofs.Shown.{told_stands}
-use Rattle.law_client.proofs.Own.{client_at, IsOutcomeOf, reads_since}
+use Rattle.law_client.proofs.Own.{client_at, reads_since}
 
 -- an outcome of session s with a number, asked of session t
 rises_for : (t s n : ℕ) (above : List Item) (x : Item) → transcripts.outcome_of t x ≡ (if nat_eq t s then Some n else None) → AllByRecursion (outcome_order.IsBelowNumber s n) above → outcome_order.IsRising t above x

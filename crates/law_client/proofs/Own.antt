@@ -1,6 +1,6 @@
 -- The client's own session, one item more above.
-use Rattle.std.proofs.Common.{◌≡◌, ℕ, zero, suc, ◌+◌, ◌<◌, ◌≤◌, cond, List, [], ◌∷◌, ◌++◌, map, reverse, length, refl, ap, sym, ◌∙◌, subst, inl, inr, ⊎_elim, arith, count_by, filter, append_assoc, length-append}
-use Rattle.std.specs.Prelude.{◌⊎◌, Bool, true, false, not, ◌&&◌, nat_eq, nat_le, nat_lt, Option, Some, None, if◌then◌else◌}
+use Rattle.std.proofs.Common.{◌≡◌, ℕ, suc, ◌+◌, ◌≤◌, cond, List, [], ◌∷◌, ◌++◌, map, reverse, length, refl, ap, sym, ◌∙◌, subst, inl, inr, arith, count_by, filter, append_assoc, length-append}
+use Rattle.std.specs.Prelude.{Bool, false, not, ◌&&◌, nat_le, nat_lt, Option, Some, None, if◌then◌else◌}
 use Rattle.std.specs.List.{AllByRecursion}
 use Rattle.std.proofs.lemmas.List.{map-append}
 use Rattle.ax_types.specs.Places as lists
@@ -11,7 +11,6 @@ use Rattle.ax_types.specs.declared.ops.Level.TheVariants as level
 use Rattle.ax_types.specs.declared.ops.WindowCall.{WindowCall}
 use Rattle.ax_types.specs.declared.ops.WindowCall.TheVariants as call
 use Rattle.ax_types.specs.declared.replies.Event.{Event}
-use Rattle.ax_types.specs.declared.replies.How.{How}
 use Rattle.ax_types.specs.declared.sessions.Got.{Got}
 use Rattle.spec_book.specs.History as histories
 use Rattle.spec_claims.specs.Transcript as transcripts
@@ -23,10 +22,9 @@ use Rattle.spec_claims.specs.OutcomeOrder as outcome_order
 use Rattle.spec_claims.specs.Payloads as payloads
 use Rattle.spec_sequencer.specs.Sequencers as sequencers
 use Rattle.spec_client.specs.Clients as clients
-use Rattle.law_client.specs.Inputs as inputs
 use Rattle.law_client.specs.Standing as standing
 use Rattle.law_release.proofs.Tests.{is_equal, is_at_most, is_above, is_below, is_not_below}
-use Rattle.law_client.proofs.Lists.{count_more, count_no, count_yes, reverse_more, all_since}
+use Rattle.law_client.proofs.Lists.{count_more, count_no, count_yes, all_since}
 use Rattle.law_client.proofs.Chain.{last_end, end_more}
 use Rattle.law_client.proofs.Shown.{ShowsNone, IsBlank, called_first, and_true, and_false, calls_same, upto_same, below_same, outcomes_same, outcomes_more, none_below, some_below, below_more, heard_more, heard_same, waiting_same, waiting_less, waiting_outcome, waiting_called}
 

@@ -1,22 +1,16 @@
 -- Answers: a call gets one, and release gives out those that may go, in order.
-use Rattle.std.proofs.Common.{◌≡◌, ℕ, zero, suc, ◌+◌, ◌<◌, ◌≤◌, cond, List, [], ◌∷◌, ◌++◌, map, reverse, length, refl, ap, sym, ◌∙◌, subst, inl, inr, ⊎_elim, arith, count_by, filter, find, append_assoc}
-use Rattle.std.specs.Prelude.{◌⊎◌, Bool, true, false, ◌||◌, not, is_some, nat_eq, Option, Some, None, option_map, if◌then◌else◌}
-use Rattle.std.specs.List.{AllByRecursion, list_any}
+use Rattle.std.proofs.Common.{◌≡◌, ℕ, suc, ◌+◌, ◌<◌, ◌≤◌, cond, List, [], ◌∷◌, ◌++◌, map, reverse, length, refl, ap, sym, ◌∙◌, subst, inl, inr, ⊎_elim, arith, filter, find, append_assoc}
+use Rattle.std.specs.Prelude.{Bool, true, false, ◌||◌, not, is_some, nat_eq, Option, Some, None, if◌then◌else◌}
+use Rattle.std.specs.List.{AllByRecursion}
 use Rattle.std.proofs.lemmas.List.{length-map}
 use Rattle.std.proofs.lemmas.List.Elements.{filter-append}
-use Rattle.ax_types.specs.Places as lists
 use Rattle.ax_types.specs.declared.items.Item.{Item}
 use Rattle.ax_types.specs.declared.items.Item.TheVariants as item
-use Rattle.ax_types.specs.declared.ops.Level.{Level}
-use Rattle.ax_types.specs.declared.ops.Level.TheVariants as level
 use Rattle.ax_types.specs.declared.ops.WindowCall.{WindowCall}
 use Rattle.ax_types.specs.declared.ops.WindowCall.TheVariants as call
 use Rattle.ax_types.specs.declared.sessions.Got.{Got}
 use Rattle.spec_book.specs.History as histories
 use Rattle.spec_claims.specs.Transcript as transcripts
-use Rattle.spec_claims.specs.Right as claims_right
-use Rattle.spec_claims.specs.FreshReads as fresh_reads
-use Rattle.spec_claims.specs.Heard as claims_heard
 use Rattle.spec_claims.specs.OutcomeOrder as outcome_order
 use Rattle.spec_sequencer.specs.Sequencers as sequencers
 use Rattle.spec_client.specs.Clients as clients
@@ -24,7 +18,6 @@ use Rattle.spec_client.specs.Receipts as receipts
 use Rattle.law_release.specs.Releases as releases
 use Rattle.law_release.proofs.Releases.{keeps}
 use Rattle.law_release.proofs.Tests.{by_test, on_or_off, equal, is_equal, is_unequal}
-use Rattle.law_client.specs.Inputs as inputs
 use Rattle.law_client.specs.Standing as standing
 use Rattle.law_client.specs.Promises as promises
 use Rattle.law_client.proofs.Lists.{IsAmong, among_behind, some_same, all_since, all_append, reverse_onto, count_no, filter_all, filter_none}
@@ -128,13 +121,13 @@ gives_out h c s read (u ∷ given) kept (r ∷ rs) (x ∷ xs) above mine found o
     let le : read ≤ now = not_earlier (sequencers.is_query u) read g.place is.place in
     let claimed : promises.IsClaimed h above y = answer_claimed h c above s read u (given ++ kept) r rs g o ends is.got is.events is.place in
     let same : receipts.items_of c (x ∷ xs) ≡ y ∷ receipts.items_of c xs =
-        ap (λ n. receipts.item_for (clients.own_session c.state) g (receipts.request c.requests n) ++ receipts.items_of c xs) (a.0 ∙ i.number)
-        ∙ ap (λ q. receipts.item_for (clients.own_session c.state) g q ++ receipts.items_of c xs) found.0
-        ∙ ap (λ t. receipts.answer_item t g r r.call ∷ receipts.items_of c xs) mine in
+    ap (λ n. receipts.item_for (clients.own_session c.state) g (receipts.request c.requests n) ++ receipts.items_of c xs) (a.0 ∙ i.number)
+    ∙ ap (λ q. receipts.item_for (clients.own_session c.state) g q ++ receipts.items_of c xs) found.0
+    ∙ ap (λ t. receipts.answer_item t g r r.call ∷ receipts.items_of c xs) mine in
     let more = gives_out h c s now given kept rs xs (y ∷ above) mine found.1 (own_outcome h c above s y u (given ++ kept) r rs read now out le o)
-        (count_no (outcome_order.is_ended s) y above (response_unended s s y (answer_is s g r r.call)) ∙ ends)
-        (count_no (outcome_order.is_unsent s) y above (response_sent s s y (answer_is s g r r.call)) ∙ unsent)
-        a.2 in
+    (count_no (outcome_order.is_ended s) y above (response_unended s s y (answer_is s g r r.call)) ∙ ends)
+    (count_no (outcome_order.is_unsent s) y above (response_sent s s y (answer_is s g r r.call)) ∙ unsent)
+    a.2 in
     subst (GaveOut h c above s (releases.last_read now given xs) kept (r ∷ rs)) (sym same)
     (gave_more h c above s (releases.last_read now given xs) kept r rs y (receipts.items_of c xs) (asked.0 ∙ ap (λ k. suc k) (sym o.outcomes)) out.outcome claimed (answer_is s g r r.call) more)
 
@@ -162,8 +155,7 @@ lacking h above s done [] [] a = tt
 lacking h above s done [] (r ∷ rs) a = absurd a
 lacking h above s done (u ∷ us) [] a = absurd a
 lacking h above s done (u ∷ us) (r ∷ rs) a =
-    let i : standing.IsAsked h above s u r = a.1 in
-    (
+    let i : standing.IsAsked h above s u r = a.1 in (
       ap (λ b. b || receipts.lacks_outcome us r.number) (is_equal u.number r.number i.number),
       all_since (λ q. receipts.lacks_outcome us q.number ≡ true) (λ q. receipts.lacks_outcome (u ∷ us) q.number ≡ true) (λ q e. ap (λ b. nat_eq u.number q.number || b) e ∙ or_true (nat_eq u.number q.number)) rs
           (lacking h above s (suc done) us rs a.2),
@@ -264,13 +256,13 @@ release_keeps h c above s mine o ends unsent =
     let whole : standing.IsOwn h (client_at c (k.given ++ k.kept) c.requests q.read) above s = subst (λ us. standing.IsOwn h (client_at c us c.requests q.read) above s) k.whole o in
     let g : GaveOut h c above s (releases.last_read q.read k.given r.items) k.kept c.requests items = gives_out h c s q.read k.given k.kept c.requests r.items above mine found whole ends unsent k.items in
     let own : standing.IsOwn h (client_at c k.kept g.requests r.read) (reverse items ++ above) s =
-        subst (λ read. standing.IsOwn h (client_at c k.kept g.requests read) (reverse items ++ above) s) (sym k.read_at) g.own in
+    subst (λ read. standing.IsOwn h (client_at c k.kept g.requests read) (reverse items ++ above) s) (sym k.read_at) g.own in
     let now : standing.IsOwn h (record c { sequencer = sequencers.released q; requests = g.requests }) (reverse items ++ above) s =
-        own_with h c (reverse items ++ above) s r.read r.seen k.kept r.calls g.requests (left_many q.heard r.read k.kept r.again r.calls k.left)
-        (λ done a. left_asked h (reverse items ++ above) s done q.heard r.read k.kept r.again r.calls g.requests k.left a) own in
+    own_with h c (reverse items ++ above) s r.read r.seen k.kept r.calls g.requests (left_many q.heard r.read k.kept r.again r.calls k.left)
+    (λ done a. left_asked h (reverse items ++ above) s done q.heard r.read k.kept r.again r.calls g.requests k.left a) own in
     let low : AllByRecursion (λ b. b.number ≤ now.done) g.before = subst (λ d. AllByRecursion (λ b. b.number ≤ d) g.before) now.outcomes g.low in
     let left : receipts.requests_left c.requests r.calls ≡ g.requests =
-        ap (λ qs. receipts.requests_left qs r.calls) g.whole ∙ left_requests h (reverse items ++ above) s now.done r.calls g.before g.requests now.asked low in
+    ap (λ qs. receipts.requests_left qs r.calls) g.whole ∙ left_requests h (reverse items ++ above) s now.done r.calls g.before g.requests now.asked low in
     record {
       own = subst (λ qs. standing.IsOwn h (record c { sequencer = sequencers.released q; requests = qs }) (reverse items ++ above) s) (sym left) now;
       ends = g.ends;

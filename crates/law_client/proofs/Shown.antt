@@ -1,6 +1,6 @@
 -- What items show of a session, item by item: the nearest is the first.
-use Rattle.std.proofs.Common.{◌≡◌, ℕ, zero, suc, ◌+◌, ◌<◌, ◌≤◌, cond, List, [], ◌∷◌, ◌++◌, map, reverse, length, refl, ap, sym, ◌∙◌, subst, inl, inr, ⊎_elim, arith, count_by, filter, flat_map, append_assoc, append-nil}
-use Rattle.std.specs.Prelude.{◌⊎◌, Bool, true, false, ◌&&◌, ◌||◌, not, nat_eq, nat_le, nat_lt, is_some, Option, Some, None, if◌then◌else◌}
+use Rattle.std.proofs.Common.{◌≡◌, ℕ, suc, ◌<◌, ◌≤◌, cond, List, [], ◌∷◌, ◌++◌, reverse, refl, ap, sym, ◌∙◌, subst, inl, inr, ⊎_elim, arith, count_by, filter, append-nil}
+use Rattle.std.specs.Prelude.{Bool, true, false, ◌&&◌, ◌||◌, not, nat_eq, nat_le, nat_lt, is_some, Option, Some, None, if◌then◌else◌}
 use Rattle.std.specs.List.{AllByRecursion, list_any}
 use Rattle.std.proofs.lemmas.List.Elements.{filter-append}
 use Rattle.std.proofs.lemmas.Grind.{flat_map-append}
@@ -15,8 +15,8 @@ use Rattle.spec_claims.specs.Heard as claims_heard
 use Rattle.spec_claims.specs.OutcomeOrder as outcome_order
 use Rattle.spec_claims.specs.Payloads.{IsHeardIn}
 use Rattle.law_client.specs.Inputs as inputs
-use Rattle.law_release.proofs.Tests.{by_test, on, off, on_or_off, equal, is_equal, is_unequal, unequal, above, is_above, is_at_most}
-use Rattle.law_client.proofs.Lists.{all_each, count_more, count_no, count_yes, reverse_more, flat_more, filter_twice, filter_same, filter_all, any_more, no_either, all_since}
+use Rattle.law_release.proofs.Tests.{on_or_off, equal, is_equal, is_unequal}
+use Rattle.law_client.proofs.Lists.{all_each, count_no, count_yes, reverse_more, flat_more, filter_twice, filter_same, filter_all, any_more, no_either, all_since}
 use Rattle.law_client.proofs.Chain.{in_either, alone}
 
 -- an item of no session, or of another one

@@ -1,6 +1,6 @@
 -- Each input of a client keeps how it stands, and what is claimed of its items.
-use Rattle.std.proofs.Common.{◌≡◌, ℕ, zero, suc, ◌+◌, ◌<◌, ◌≤◌, cond, List, [], ◌∷◌, ◌++◌, map, reverse, length, refl, ap, sym, ◌∙◌, subst, inl, inr, ⊎_elim, arith, count_by, find, append-nil}
-use Rattle.std.specs.Prelude.{◌⊎◌, Bool, true, false, ◌&&◌, not, is_some, nat_eq, nat_lt, nat_le, Option, Some, None, if◌then◌else◌}
+use Rattle.std.proofs.Common.{◌≡◌, ℕ, suc, ◌+◌, ◌<◌, ◌≤◌, cond, List, [], ◌∷◌, ◌++◌, map, reverse, length, refl, ap, sym, ◌∙◌, subst, inl, inr, ⊎_elim, arith, count_by}
+use Rattle.std.specs.Prelude.{Bool, true, false, ◌&&◌, not, is_some, nat_eq, nat_lt, nat_le, Option, Some, None, if◌then◌else◌}
 use Rattle.std.specs.List.{AllByRecursion}
 use Rattle.ax_types.specs.Places as lists
 use Rattle.ax_types.specs.declared.entries.Act.{Act}
@@ -18,7 +18,6 @@ use Rattle.ax_types.specs.declared.ops.WindowCall.{WindowCall}
 use Rattle.ax_types.specs.declared.ops.WindowCall.TheVariants as call
 use Rattle.ax_types.specs.declared.packets.Payload.{Payload}
 use Rattle.ax_types.specs.declared.packets.Payload.TheVariants as payload
-use Rattle.ax_types.specs.declared.replies.Event.{Event}
 use Rattle.ax_types.specs.declared.replies.How.{How}
 use Rattle.ax_types.specs.declared.replies.How.TheVariants as how
 use Rattle.ax_types.specs.declared.replies.Reply.{Reply}
@@ -30,7 +29,6 @@ use Rattle.ax_types.specs.declared.sessions.Heard.TheVariants as heard
 use Rattle.spec_book.specs.History as histories
 use Rattle.spec_claims.specs.Transcript as transcripts
 use Rattle.spec_claims.specs.Once as claims_once
-use Rattle.spec_claims.specs.Right as claims_right
 use Rattle.spec_claims.specs.Heard as claims_heard
 use Rattle.spec_claims.specs.OutcomeOrder as outcome_order
 use Rattle.spec_claims.specs.Payloads as payloads
@@ -43,10 +41,10 @@ use Rattle.law_client.specs.Standing as standing
 use Rattle.law_client.specs.Promises as promises
 use Rattle.law_client.proofs.Lists.{some_same, all_since, all_append, reverse_more, reverse_onto, count_more, count_no, count_yes}
 use Rattle.law_client.proofs.Chain.{IsChain, end_of, last_end, heard_chain, next_one}
-use Rattle.law_client.proofs.Shown.{IsAside, ShowsNone, IsBlank, aside, ended_aside, blank, heard_same}
+use Rattle.law_client.proofs.Shown.{IsAside, ShowsNone, IsBlank, aside, blank, heard_same}
 use Rattle.law_client.proofs.Own.{client_at, IsOutcomeOf, own_aside, own_outcome, own_event, own_unsent, own_called, own_opened, new_rank, new_below, all_low}
 use Rattle.law_client.proofs.Claims.{next_of, end_claimed, unsent_claimed, called_claimed, event_claimed, ended_claimed, opened_claimed}
-use Rattle.law_client.proofs.Responses.{IsResponse, Released, after_release, release_keeps, own_answered, own_with, same_call, Found, found_pair}
+use Rattle.law_client.proofs.Responses.{IsResponse, Released, after_release, release_keeps, own_answered, same_call, Found, found_pair}
 
 all_reversed : {X : Type 0} (P : X → Type 0) (xs : List X) → AllByRecursion P xs → AllByRecursion P (reverse xs)
 all_reversed P [] a = tt
@@ -351,7 +349,7 @@ opened_keeps h c above session opening k is takes =
     let here : payloads.IsOpeningOf c.me c.switch.opening (lists.at_place h session) = subst (λ o. payloads.IsOpeningOf c.me o (lists.at_place h session)) number is in
     let old : AllByRecursion (λ x. standing.IsOld c.me c.switch.opening h (inputs.session_in x)) above = subst (λ n. AllByRecursion (λ x. standing.IsOld c.me n h (inputs.session_in x)) above) next k.old in
     let b : IsBlank session above = blank session above
-        (all_since (λ x. standing.IsOld c.me c.switch.opening h (inputs.session_in x)) (λ x. IsAside session (inputs.session_in x)) (λ x o. new_aside h c.me c.switch.opening session (inputs.session_in x) here o) above old) in
+    (all_since (λ x. standing.IsOld c.me c.switch.opening h (inputs.session_in x)) (λ x. IsAside session (inputs.session_in x)) (λ x o. new_aside h c.me c.switch.opening session (inputs.session_in x) here o) above old) in
     let d : clients.Client = record c { state = state.Live session; switch = sequencers.with_opened c.switch; calls = 0; commands = 0; sequencer = sequencers.new_sequencer session; requests = [] } in
     let x = item.Opened session c.me in
     let own : standing.IsOwn h d (x ∷ above) session = own_opened h d above session here b refl refl refl refl in
@@ -505,8 +503,8 @@ taken_keeps h c above b k here told up follows =
     shows h c (after_release d) above (x ∷ items) s _ k refl (omega arith) (omega (arith, joined_next c here)) now
     (refl, all_since (IsResponse s) (λ y. inputs.session_in y ≡ Some s) (λ y a. response_of s y a) items r.responses)
     (joined_again h c (after_release d) above (reverse (x ∷ items) ++ above) c.state here k.own
-      (record { own = now; ends = subst (λ ys. standing.HasEnds s ys 0) back r.ends; unsent = subst (λ ys. standing.HasUnsent s ys 0) back r.unsent })
-      (λ a. no_requests_left c.requests (sequencers.release_of d.sequencer).calls a))
+    (record { own = now; ends = subst (λ ys. standing.HasEnds s ys 0) back r.ends; unsent = subst (λ ys. standing.HasUnsent s ys 0) back r.unsent })
+    (λ a. no_requests_left c.requests (sequencers.release_of d.sequencer).calls a))
     (event_claimed h c above s b.place b.prev b.events o j.ends, r.claimed) (responses_end s (x ∷ above) items r.responses)
 
 pub batch_keeps : (h : histories.History) (c : clients.Client) (above : List Item) (node session : ℕ) (b : Batch) → standing.Stands h (seat_of c above)
@@ -604,8 +602,7 @@ ends_step h c above s place how.Expired o ends own asked =
     all_doubted h above s o.done c.sequencer.calls c.requests o.asked ∙ ap (λ cs. map (outcome_order.doubted s) cs) (sym o.waiting)
 ends_step h c above s place how.Closed o ends own asked =
     let none : c.requests ≡ [] = closed_none h c above s own ends asked in
-    let no_more : c.sequencer.calls ≡ [] = no_calls h above s o.done c.sequencer.calls c.requests o.asked none in
-    (
+    let no_more : c.sequencer.calls ≡ [] = no_calls h above s o.done c.sequencer.calls c.requests o.asked none in (
       o.waiting ∙ ap (λ rs. map standing.asked_call rs) none,
       subst (λ us. outcome_order.EndsStep (item.Ended s place how.Closed ∷ above) (map (receipts.outcome_at_end s) us)) (sym no_more) tt,
     )

@@ -1,5 +1,5 @@
 -- One client for which what may happen does: it opens a session, calls, reads, hears no event, closes, and opens again.
-use Rattle.std.specs.Prelude.{ℕ, ◌≡◌, List, [], ◌∷◌, None, pos, reverse}
+use Rattle.std.specs.Prelude.{◌≡◌, List, [], ◌∷◌, None, pos, reverse}
 use Rattle.ax_types.specs.declared.entries.Act.TheVariants as act
 use Rattle.ax_types.specs.declared.items.Item.{Item}
 use Rattle.ax_types.specs.declared.items.Item.TheVariants as item

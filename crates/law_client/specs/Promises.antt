@@ -1,5 +1,5 @@
 -- What the items of a client promise, whatever happens at it, as long as what reaches it is true.
-use Rattle.std.specs.Prelude.{ℕ, ◌≡◌, List, [], ◌∷◌, ◌++◌, map, reverse}
+use Rattle.std.specs.Prelude.{ℕ, ◌≡◌, List, [], ◌∷◌, map}
 use Rattle.ax_types.specs.Places as lists
 use Rattle.ax_types.specs.declared.items.Item.{Item}
 use Rattle.ax_types.specs.declared.items.Item.TheVariants as item
@@ -10,7 +10,6 @@ use Rattle.spec_claims.specs.FreshReads as fresh_reads
 use Rattle.spec_claims.specs.Heard as claims_heard
 use Rattle.spec_claims.specs.OutcomeOrder as outcome_order
 use Rattle.spec_claims.specs.Payloads as payloads
-use Rattle.spec_client.specs.Clients as clients
 use Rattle.law_client.specs.Inputs as inputs
 use Rattle.law_client.specs.Standing as standing
 

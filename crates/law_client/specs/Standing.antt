@@ -1,5 +1,5 @@
 -- How a client stands to the items above it and to a history: what each of its steps keeps.
-use Rattle.std.specs.Prelude.{ℕ, suc, ◌≡◌, ◌≤◌, ◌<◌, ◌+◌, IsTrue, Bool, true, if◌then◌else◌, Option, Some, None, option_map, List, [], ◌∷◌, ◌++◌, length, map, reverse, count_by}
+use Rattle.std.specs.Prelude.{ℕ, suc, ◌≡◌, ◌≤◌, ◌<◌, ◌+◌, IsTrue, if◌then◌else◌, Option, Some, None, option_map, List, [], ◌∷◌, ◌++◌, length, map, reverse, count_by}
 use Rattle.std.specs.List.{AllByRecursion}
 use Rattle.ax_types.specs.Places as lists
 use Rattle.ax_types.specs.declared.items.Item.{Item}
