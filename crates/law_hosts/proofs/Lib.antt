@@ -1,0 +1,4 @@
+pub mod Members
+pub mod Tasks
+pub mod Packets
+pub mod Matched
