@@ -72,7 +72,7 @@ host_members n stayed w v ms k h m a e f =
     ∙ sym (changed stayed n k v.hosts h)
 
 -- the system after a node took the input that there is
-abbrev after_input : systems.System → ℕ → raft_nodes.Node → Option RaftInput → systems.System
+abbrev pub after_input : systems.System → ℕ → raft_nodes.Node → Option RaftInput → systems.System
 after_input s k n None = systems.with_node s k n
 after_input s k n (Some i) = made_system s k n i
 
@@ -94,12 +94,12 @@ input_packets s k n None = tt
 input_packets s k n (Some i) = all_new s.sent (node_steps.did n i).packets
 
 -- and what the ledger then tells
-record Tells (l : ledgers.Ledger) (s : systems.System) : Type 0 where
-  committed : s.cluster.committed ≡ l.committed
-  terms : s.cluster.terms ≡ l.terms
-  leds : s.cluster.leds ≡ l.leds
-  takens : s.cluster.takens ≡ l.takens
-  givens : s.cluster.givens ≡ l.givens
+pub record Tells (l : ledgers.Ledger) (s : systems.System) : Type 0 where
+  pub committed : s.cluster.committed ≡ l.committed
+  pub terms : s.cluster.terms ≡ l.terms
+  pub leds : s.cluster.leds ≡ l.leds
+  pub takens : s.cluster.takens ≡ l.takens
+  pub givens : s.cluster.givens ≡ l.givens
 
 input_tells : (l : ledgers.Ledger) (s : systems.System) (k : ℕ) (n : raft_nodes.Node) (o : Option RaftInput) → Tells l s → Tells (ledgers.with_input l k n o) (after_input s k n o)
 input_tells l s k n None t = record { committed = t.committed; terms = t.terms; leds = t.leds; takens = t.takens; givens = t.givens }
@@ -112,7 +112,7 @@ input_tells l s k n (Some i) t = record {
 }
 
 -- a host of the world is a node of the system
-stands_up : (n : ℕ) (stayed : ℕ → ℕ) (l : ledgers.Ledger) (w : worlds.World) (m : hosts.IsMatched n stayed l w) (k : ℕ) (h : worlds.Host) → lists.at_place w.hosts k ≡ Some h → h.is_up ≡ true
+pub stands_up : (n : ℕ) (stayed : ℕ → ℕ) (l : ledgers.Ledger) (w : worlds.World) (m : hosts.IsMatched n stayed l w) (k : ℕ) (h : worlds.Host) → lists.at_place w.hosts k ≡ Some h → h.is_up ≡ true
     → systems.IsUp (system_of n stayed l w m) k h.server.raft
 stands_up n stayed l w m k h at up = ap (λ ms. lists.at_place ms k) m.ends.members ∙ found stayed n k w.hosts h at ∙ ap (λ x. Some x) (up_member stayed n k h up)
 
@@ -121,11 +121,22 @@ stands_down : (n : ℕ) (stayed : ℕ → ℕ) (l : ledgers.Ledger) (w : worlds.
 stands_down n stayed l w m k h at down = ap (λ ms. lists.at_place ms k) m.ends.members ∙ found stayed n k w.hosts h at ∙ ap (λ x. Some x) (down_member stayed n k h down)
 
 -- what is known of the worlds before
-abbrev MatchedAll : ℕ → ledgers.Ledger → worlds.World → Type 0
+abbrev pub MatchedAll : ℕ → ledgers.Ledger → worlds.World → Type 0
 MatchedAll n l w = (stayed : ℕ → ℕ) → hosts.IsMatched n stayed l w
 
 -- a server's step
-serves_well : (n : ℕ) (stayed : ℕ → ℕ) (l : ledgers.Ledger) (w v : worlds.World) (k : ℕ) (h : worlds.Host) (i : ServerInput) (hist : List (ℕ × Act))
+pub serves_made : (n : ℕ) (stayed : ℕ → ℕ) (l : ledgers.Ledger) (w : worlds.World) (k : ℕ) (h : worlds.Host) (i : ServerInput) (m : hosts.IsMatched n stayed l w)
+    → lists.at_place w.hosts k ≡ Some h → h.is_up ≡ true → plan_cases.IsInputOf w k h i → Fragment (system_of n stayed l w m) (after_input (system_of n stayed l w m) k h.server.raft (servers.task h.server i).input)
+serves_made n stayed l w k h i m at up known =
+    let s : systems.System = system_of n stayed l w m in
+    let is_up : systems.IsUp s k h.server.raft = stands_up n stayed l w m k h at up in
+    let knows : refinements.KnowsOthers h.server.raft = others_of s k (record { is_up = true; node = h.server.raft }) (orderly n stayed l w m) is_up in
+    input_made s k h.server.raft (servers.task h.server i).input is_up (task_carried w s k h i is_up knows known m.ends.packets)
+
+pub tells : (n : ℕ) (stayed : ℕ → ℕ) (l : ledgers.Ledger) (w : worlds.World) (k : ℕ) (x : raft_nodes.Node) (o : Option RaftInput) (m : hosts.IsMatched n stayed l w) → Tells (ledgers.with_input l k x o) (after_input (system_of n stayed l w m) k x o)
+tells n stayed l w k x o m = input_tells l (system_of n stayed l w m) k x o (record { committed = m.ends.committed; terms = m.ends.terms; leds = m.ends.leds; takens = m.ends.takens; givens = m.ends.givens })
+
+pub serves_well : (n : ℕ) (stayed : ℕ → ℕ) (l : ledgers.Ledger) (w v : worlds.World) (k : ℕ) (h : worlds.Host) (i : ServerInput) (hist : List (ℕ × Act))
     → hosts.IsMatched n stayed l w → plan_cases.IsAlike w v → lists.at_place w.hosts k ≡ Some h → h.is_up ≡ true → plan_cases.IsInputOf w k h i
     → hosts.IsMatched n stayed (ledgers.with_input l k h.server.raft (servers.task h.server i).input)
     (record (worlds.with_host v k (record h { server = server_steps.server_after h.server i })) { bag = bags.with_packets v.bag (server_steps.server_out h.server i).packets; history = hist })
@@ -134,12 +145,9 @@ serves_well n stayed l w v k h i hist m a at up known =
     let o : Option RaftInput = (servers.task h.server i).input in
     let x : worlds.Host = record h { server = server_steps.server_after h.server i } in
     let b : systems.System = after_input s k h.server.raft o in
-    let is_up : systems.IsUp s k h.server.raft = stands_up n stayed l w m k h at up in
-    let knows : refinements.KnowsOthers h.server.raft = others_of s k (record { is_up = true; node = h.server.raft }) (orderly n stayed l w m) is_up in
-    let c : IfCarried s k h.server.raft o = task_carried w s k h i is_up knows known m.ends.packets in
-    let t : Tells (ledgers.with_input l k h.server.raft o) b = input_tells l s k h.server.raft o (record { committed = m.ends.committed; terms = m.ends.terms; leds = m.ends.leds; takens = m.ends.takens; givens = m.ends.givens }) in
+    let t : Tells (ledgers.with_input l k h.server.raft o) b = tells n stayed l w k h.server.raft o m in
     let P : Packet → Type 0 = hosts.IsSentIfRaft b.sent in
-    goes_on n stayed stayed l (ledgers.with_input l k h.server.raft o) w (record (worlds.with_host v k x) { bag = bags.with_packets v.bag (server_steps.server_out h.server i).packets; history = hist }) m b (input_made s k h.server.raft o is_up c) (record {
+    goes_on n stayed stayed l (ledgers.with_input l k h.server.raft o) w (record (worlds.with_host v k x) { bag = bags.with_packets v.bag (server_steps.server_out h.server i).packets; history = hist }) m b (serves_made n stayed l w k h i m at up known) (record {
       members = input_members s k h.server.raft o ∙ host_members n stayed w v s.cluster.members k x (record { is_up = true; node = server_steps.raft_after h.server.raft o }) a m.ends.members (up_member stayed n k x up);
       packets = all_kept P v.bag (server_steps.server_out h.server i).packets
           (subst (AllByRecursion P) (sym a.kept) (all_since (hosts.IsSentIfRaft s.sent) P (λ p f j q e g raft. input_among s k h.server.raft o p (f j q e g raft)) (plan_cases.kept_packets w.bag) m.ends.packets))
@@ -303,7 +311,7 @@ new_from : (stayed : ℕ → ℕ) (n timeout a b : ℕ) → map (λ k. let m : c
 new_from stayed n timeout a zero = refl
 new_from stayed n timeout a (suc b) = ap (λ ms. (let m : clusters.Member = record { is_up = true; node = raft_nodes.new_node a n } in m) ∷ ms) (new_from stayed n timeout (suc a) b)
 
-new_matched : (n clients timeout : ℕ) (stayed : ℕ → ℕ) → hosts.IsMatched n stayed ledgers.new_ledger (worlds.new_world n clients timeout)
+pub new_matched : (n clients timeout : ℕ) (stayed : ℕ → ℕ) → hosts.IsMatched n stayed ledgers.new_ledger (worlds.new_world n clients timeout)
 new_matched n clients timeout stayed = record {
   list = [];
   may = tt;
