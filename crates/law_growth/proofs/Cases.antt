@@ -90,7 +90,7 @@ some_none a e = cc (e)
 pub some_same : {A : Type 0} (a b : A) → Some a ≡ Some b → a ≡ b
 some_same a b e = cc (e)
 
-true_false : {A : Type 0} → true ≡ false → A
+pub true_false : {A : Type 0} → true ≡ false → A
 true_false e = cc (e)
 
 second_reason : (r o : Option SkipReason) → bags.first_reason r o ≡ None → o ≡ None
