@@ -21,7 +21,7 @@ stores_keep_acts timeout es contents held p a i = kept_act contents p a (lists.a
 begins_log : (timeout : ℕ) (es : List Entry) (x : Option kept_stores.FoundStore) → keeping.BeginsWith es x → kept_stores.BeginsLog (kept_stores.acts_of timeout es) timeout x
 begins_log timeout es None b = b
 begins_log timeout es (Some f) b =
-    (kept_stores.acts_from (folds.state_of timeout es) b.0, ap (kept_stores.acts_of timeout) b.1 ∙ acts_split (sessions.new_sessions timeout) es b.0)
+    (kept_stores.acts_from (folds.sessions_after timeout es) b.0, ap (kept_stores.acts_of timeout) b.1 ∙ acts_split (sessions.new_sessions timeout) es b.0)
 
 pub logs_begin_with_acts : keeping.LogsBeginWithActs
 logs_begin_with_acts timeout es contents f choice most = begins_log timeout es (kept_stores.newest (kept_stores.chosen choice contents)) (f choice most)

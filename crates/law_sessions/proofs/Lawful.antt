@@ -34,4 +34,4 @@ pub acts_are_of_entries : laws.ActsAreOfEntries
 acts_are_of_entries timeout es = let r = (whole timeout es).acts in record { long = r.long; each = r.each }
 
 pub acts_grow : laws.ActsGrow
-acts_grow timeout es more = (kept_stores.acts_from (folds.state_of timeout es) more, acts_split (sessions.new_sessions timeout) es more)
+acts_grow timeout es more = (kept_stores.acts_from (folds.sessions_after timeout es) more, acts_split (sessions.new_sessions timeout) es more)

@@ -357,7 +357,7 @@ run timeout done (e ∷ es) h s r =
     subst (λ g. IsStateOf timeout (done ++ e ∷ es) g (folds.applied_all t es)) (append_assoc h (a ∷ []) (kept_stores.acts_from t es))
     (subst (λ xs. IsStateOf timeout xs ((h ++ a ∷ []) ++ kept_stores.acts_from t es) (folds.applied_all t es)) (append_assoc done (e ∷ []) es) i)
 
-pub whole : (timeout : ℕ) (es : List Entry) → IsStateOf timeout es (kept_stores.acts_of timeout es) (folds.state_of timeout es)
+pub whole : (timeout : ℕ) (es : List Entry) → IsStateOf timeout es (kept_stores.acts_of timeout es) (folds.sessions_after timeout es)
 whole timeout es = run timeout [] es [] (sessions.new_sessions timeout) (start timeout)
 
 -- the acts of more entries

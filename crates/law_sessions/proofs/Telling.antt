@@ -46,10 +46,10 @@ tells timeout es h s r = record {
 }
 
 pub state_tells_fold : folds.StateTellsFold
-state_tells_fold timeout es = tells timeout es (kept_stores.acts_of timeout es) (folds.state_of timeout es) (whole timeout es)
+state_tells_fold timeout es = tells timeout es (kept_stores.acts_of timeout es) (folds.sessions_after timeout es) (whole timeout es)
 
 pub entry_gives_fold : folds.EntryGivesFold
 entry_gives_fold timeout es e =
-    let s : sessions.Sessions = folds.state_of timeout es in
+    let s : sessions.Sessions = folds.sessions_after timeout es in
     subst (λ g. folds.GivesFold g (sessions.applied_of s (suc s.applied) e)) (sym (acts_split (sessions.new_sessions timeout) es (e ∷ [])))
     (entry_goes timeout es (kept_stores.acts_of timeout es) s e (whole timeout es)).gives

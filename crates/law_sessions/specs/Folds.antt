@@ -22,8 +22,8 @@ abbrev pub applied_all : sessions.Sessions → List Entry → sessions.Sessions
 applied_all s [] = s
 applied_all s (e ∷ es) = applied_all (sessions.applying s (suc s.applied) e) es
 
-abbrev pub state_of : ℕ → List Entry → sessions.Sessions
-state_of timeout es = applied_all (sessions.new_sessions timeout) es
+abbrev pub sessions_after : ℕ → List Entry → sessions.Sessions
+sessions_after timeout es = applied_all (sessions.new_sessions timeout) es
 
 -- what is true whatever has been called
 abbrev pub IsTrueOf : histories.History → ℕ → Payload → Type 0
@@ -46,7 +46,7 @@ pub record TellsFold (h : histories.History) (s : sessions.Sessions) : Type 0 wh
   pub batches : (c t heard : ℕ) → AllByRecursion (λ (b : Batch). IsTrueOf h c (payload.Batch t b.place b.prev b.events)) (sessions.after s t heard)
 
 abbrev pub StateTellsFold : Type 0
-StateTellsFold = (timeout : ℕ) (es : List Entry) → TellsFold (kept_stores.acts_of timeout es) (state_of timeout es)
+StateTellsFold = (timeout : ℕ) (es : List Entry) → TellsFold (kept_stores.acts_of timeout es) (sessions_after timeout es)
 
 -- what an entry gives is the reply that the history has there, a true answer to its client, and true batches
 pub record GivesFold (h : histories.History) (a : Applied) : Type 0 where
@@ -56,4 +56,4 @@ pub record GivesFold (h : histories.History) (a : Applied) : Type 0 where
 
 abbrev pub EntryGivesFold : Type 0
 EntryGivesFold = (timeout : ℕ) (es : List Entry) (e : Entry)
-    → GivesFold (kept_stores.acts_of timeout (es ++ e ∷ [])) (sessions.applied_of (state_of timeout es) (suc (state_of timeout es).applied) e)
+    → GivesFold (kept_stores.acts_of timeout (es ++ e ∷ [])) (sessions.applied_of (sessions_after timeout es) (suc (sessions_after timeout es).applied) e)

@@ -3,7 +3,7 @@ use Rattle.std.proofs.Common.{◌≡◌, ℕ, zero, suc, ◌+◌, ◌-◌, ◌�
 use Rattle.std.specs.List.{AllByRecursion}
 use Rattle.ax_types.specs.declared.replies.Event.{Event}
 use Rattle.spec_book.specs.History as histories
-use Rattle.law_told.specs.Told as laws
+use Rattle.law_told.specs.ToldEvents as laws
 use Rattle.law_told.proofs.Lists.{all_append}
 
 -- the last place, or this one

@@ -9,7 +9,7 @@ use Rattle.ax_types.specs.declared.entries.Act.TheVariants as act
 use Rattle.ax_types.specs.declared.replies.Event.{Event}
 use Rattle.spec_book.specs.Book as books
 use Rattle.spec_book.specs.History as histories
-use Rattle.law_told.specs.Told as laws
+use Rattle.law_told.specs.ToldEvents as laws
 use Rattle.law_told.proofs.Lists.{by_last, at_within, at_end, at_some, at_split, take_all}
 use Rattle.law_told.proofs.Growth.{book_next, live_grown, told_grown, turn_next}
 use Rattle.law_told.proofs.Telling.{AllMayTell, AreTold, Gives, ended_tells, turn_tells, other_tells, gives_since}

@@ -9,12 +9,12 @@ use Rattle.spec_claims.specs.OutcomeOrder as outcome_order
 use Rattle.spec_claims.specs.Payloads as payloads
 
 -- the calls of each session carry 1, 2, 3 in order
-abbrev pub AreNumbered : List Item → Type 0
-AreNumbered items = (s : ℕ) → transcripts.EachItem (outcome_order.IsNumbered s) items
+abbrev pub AreCallsNumbered : List Item → Type 0
+AreCallsNumbered items = (s : ℕ) → transcripts.EachItem (outcome_order.IsNumbered s) items
 
 -- a payload that is true of a history and of the items so far stays so as both grow at their ends
 abbrev pub PayloadsStayTrue : Type 0
-PayloadsStayTrue = (early later : List Item) (h more : histories.History) (c : ℕ) (p : Payload) → AreNumbered (early ++ later)
+PayloadsStayTrue = (early later : List Item) (h more : histories.History) (c : ℕ) (p : Payload) → AreCallsNumbered (early ++ later)
     → payloads.IsTruePayload (reverse early) h c p → payloads.IsTruePayload (reverse (early ++ later)) (h ++ more) c p
 
 -- the place that a payload tells a client of, 0 where it tells of none

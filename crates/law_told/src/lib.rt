@@ -1,7 +1,7 @@
 //! The laws of what a history tells: only the sessions that live then, in a chain of batches; and what a true payload says.
 #![tactic(auto)]
 
-ghost use Rattle.law_told.specs.Told as laws;
+ghost use Rattle.law_told.specs.ToldEvents as laws;
 ghost use Rattle.law_told.specs.Truth as truths;
 
 /// In a lawful history an act tells only sessions that live then.
