@@ -284,7 +284,7 @@ new_below c above_calls s w above a e =
     ∙ below_all c (transcripts.calls s above) a ∙ e
 
 -- a new call leaves the ranks of those before it
-called_ranks : (s k : ℕ) (w : WindowCall) (above : List Item) → SameRanks s k (item.Called s (suc k) w) above
+pub called_ranks : (s k : ℕ) (w : WindowCall) (above : List Item) → SameRanks s k (item.Called s (suc k) w) above
 called_ranks s k w above = record {
   upto = λ n l.
       let test : ℕ × WindowCall → Bool = λ v. transcripts.is_command v.1 && nat_le v.0 n in

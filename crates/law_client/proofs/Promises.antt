@@ -17,12 +17,12 @@ use Rattle.law_client.specs.Inputs as inputs
 use Rattle.law_client.specs.Standing as standing
 use Rattle.law_client.specs.Promises as promises
 use Rattle.law_client.proofs.Lists.{count_no}
-use Rattle.law_client.proofs.Shown.{IsAside, ShowsNone, aside, ended_aside, heard_same}
+use Rattle.law_client.proofs.Shown.{IsAside, ShowsNone, aside, ended_aside, calls_same, heard_same}
 use Rattle.law_client.proofs.Own.{own_aside}
 use Rattle.law_client.proofs.Steps.{Kept, seat_of, same_opening, opens_keeps, calls_keeps, queries_keeps, keep_keeps, closes_keeps, resends_keeps, switches_keeps, receives_keeps}
 
 pub new_client_stands : promises.NewClientStands
-new_client_stands h me = record { old = tt; own = tt; heard = λ s opening is. (histories.events h s, refl) }
+new_client_stands h me = record { old = tt; own = tt; heard = λ s opening is. (histories.events h s, refl); numbered = λ s opening is. tt }
 
 pub input_keeps : (h : histories.History) (c : clients.Client) (above : List Item) (i : inputs.Input) → standing.Stands h (seat_of c above) → inputs.MayReach h (seat_of c above) i → Kept h c above (inputs.stepped c i)
 input_keeps h c above (inputs.Opens node) k m = opens_keeps h c above node k
@@ -67,6 +67,9 @@ others_keep h c above x k o = record {
       let n : ShowsNone s x = aside s x (others_aside h c.me s opening (inputs.session_in x) is o) in
       let old = k.heard s opening is in
       (old.0, old.1 ∙ ap (λ ys. ys ++ old.0) (sym (heard_same s x above n.heard)));
+  numbered = λ s opening is.
+      let n : ShowsNone s x = aside s x (others_aside h c.me s opening (inputs.session_in x) is o) in
+      subst standing.AreNumbered (sym (calls_same s x above n.called)) (k.numbered s opening is);
 }
 
 pub each_step_keeps : promises.EachStepKeeps

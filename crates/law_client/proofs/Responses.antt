@@ -272,12 +272,12 @@ release_keeps h c above s mine o ends unsent =
     }
 
 -- calls by their numbers
-stands_called : (s n : ℕ) (w : WindowCall) (xs : List Item) → transcripts.StandsIn (item.Called s n w) xs → IsAmong (n, w) (transcripts.calls s xs)
+pub stands_called : (s n : ℕ) (w : WindowCall) (xs : List Item) → transcripts.StandsIn (item.Called s n w) xs → IsAmong (n, w) (transcripts.calls s xs)
 stands_called s n w [] a = absurd a
 stands_called s n w (x ∷ xs) (inl e) = subst (λ y. IsAmong (n, w) (transcripts.calls s (y ∷ xs))) (sym e) (subst (IsAmong (n, w)) (sym (called_first s n w xs)) (inl refl))
 stands_called s n w (x ∷ xs) (inr a) = among_behind (n, w) (transcripts.called_by s x) (transcripts.calls s xs) (stands_called s n w xs a)
 
-among_low : (n : ℕ) (w : WindowCall) (cs : List (ℕ × WindowCall)) → standing.AreNumbered cs → IsAmong (n, w) cs → n ≤ length cs
+pub among_low : (n : ℕ) (w : WindowCall) (cs : List (ℕ × WindowCall)) → standing.AreNumbered cs → IsAmong (n, w) cs → n ≤ length cs
 among_low n w [] a b = absurd b
 among_low n w (c ∷ cs) a (inl e) = let f : c.0 ≡ n = ap (λ x. x.0) e in omega (arith, f, a.0)
 among_low n w (c ∷ cs) a (inr b) = let l : n ≤ length cs = among_low n w cs a.1 b in omega (arith, l)

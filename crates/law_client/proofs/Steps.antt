@@ -76,6 +76,7 @@ silent h c d above sends k me l own = record {
     old = subst (λ m. AllByRecursion (λ x. standing.IsOld m (standing.next_opening d) h (inputs.session_in x)) above) (sym me) (olds_since c.me (standing.next_opening c) (standing.next_opening d) h above l k.old);
     own = own;
     heard = λ s opening is. k.heard s opening (subst (λ m. payloads.IsOpeningOf m opening (lists.at_place h s)) me is);
+    numbered = λ s opening is. k.numbered s opening (subst (λ m. payloads.IsOpeningOf m opening (lists.at_place h s)) me is);
   };
   claimed = tt;
   ends = tt;
@@ -106,6 +107,19 @@ mine_owned : (h : histories.History) (me s : ℕ) (below : List Item) (xs : List
 mine_owned h me s below [] o a = tt
 mine_owned h me s below (x ∷ xs) o a = (subst (standing.IsOfOwn me h below) (sym a.0) o, mine_owned h me s below xs o a.1)
 
+-- calls stay numbered by what is claimed of each
+one_numbered : (s : ℕ) (x : Item) (above : List Item) → outcome_order.IsNumbered s above x → standing.AreNumbered (transcripts.calls s above) → standing.AreNumbered (transcripts.calls s (x ∷ above))
+one_numbered s (item.Called t n w) above is a =
+    ⊎_elim (λ e. subst (λ b. standing.AreNumbered ((if b then (n, w) ∷ [] else []) ++ transcripts.calls s above)) (sym e) (omega (arith, (is (equal s t e)).0), a))
+    (λ e. subst (λ b. standing.AreNumbered ((if b then (n, w) ∷ [] else []) ++ transcripts.calls s above)) (sym e) a) (on_or_off (nat_eq s t))
+one_numbered s x above is a = a
+
+all_numbered : (h : histories.History) (s : ℕ) (above items : List Item) → transcripts.EachBelow (promises.IsClaimed h) above items → standing.AreNumbered (transcripts.calls s above)
+    → standing.AreNumbered (transcripts.calls s (reverse items ++ above))
+all_numbered h s above [] c a = a
+all_numbered h s above (x ∷ items) c a =
+    subst (λ ys. standing.AreNumbered (transcripts.calls s ys)) (sym (reverse_onto x items above)) (all_numbered h s (x ∷ above) items c.1 (one_numbered s x above (c.0.outcome s).0 a))
+
 pub shows : (h : histories.History) (c d : clients.Client) (above items : List Item) (s : ℕ) (sends : List (ℕ × Payload)) → standing.Stands h (seat_of c above) → d.me ≡ c.me
     → standing.next_opening c ≤ standing.next_opening d → d.switch.opening < standing.next_opening d
     → standing.IsOwn h d (reverse items ++ above) s → AreMine s items → standing.OwnStands h d (reverse items ++ above) d.state
@@ -124,6 +138,7 @@ shows h c d above items s sends k me l m own mine stands claimed ends = record {
         let old = k.heard u opening (subst (λ i. payloads.IsOpeningOf i opening (lists.at_place h u)) me is) in
         (old.0, old.1 ∙ ap (λ ys. ys ++ old.0) (sym (heard_of_other s u items above (unequal u s e) mine))))
         (on_or_off (nat_eq u s));
+    numbered = λ u opening is. all_numbered h u above items claimed (k.numbered u opening (subst (λ i. payloads.IsOpeningOf i opening (lists.at_place h u)) me is));
   };
   claimed = claimed;
   ends = ends;
@@ -132,7 +147,7 @@ shows h c d above items s sends k me l m own mine stands claimed ends = record {
 }
 
 -- states
-live_state : (t : ClientState) → clients.is_live_client t ≡ true → t ≡ state.Live (clients.own_session t)
+pub live_state : (t : ClientState) → clients.is_live_client t ≡ true → t ≡ state.Live (clients.own_session t)
 live_state (state.Live s) e = refl
 live_state state.NoneYet e = absurd (on e)
 live_state state.Opening e = absurd (on e)
@@ -225,11 +240,11 @@ placed h c above server state.NoneYet k = tt
 placed h c above server state.Opening k = tt
 
 -- by whether a step is refused
-unless_if : (P : clients.ClientStep → Type 0) (c : clients.Client) (next : clients.ClientStep) (b : Bool) (r : SkipReason) → P (clients.ignores c) → (b ≡ false → P next) → P (inputs.unless (clients.refused_if b r) c next)
+pub unless_if : (P : clients.ClientStep → Type 0) (c : clients.Client) (next : clients.ClientStep) (b : Bool) (r : SkipReason) → P (clients.ignores c) → (b ≡ false → P next) → P (inputs.unless (clients.refused_if b r) c next)
 unless_if P c next true r p q = p
 unless_if P c next false r p q = q refl
 
-unless_two : (P : clients.ClientStep → Type 0) (c : clients.Client) (next : clients.ClientStep) (live full : Bool) (r q : SkipReason) → P (clients.ignores c) → (live ≡ true → full ≡ false → P next)
+pub unless_two : (P : clients.ClientStep → Type 0) (c : clients.Client) (next : clients.ClientStep) (live full : Bool) (r q : SkipReason) → P (clients.ignores c) → (live ≡ true → full ≡ false → P next)
     → P (inputs.unless (if not live then Some r else clients.refused_if full q) c next)
 unless_two P c next true true r q p f = p
 unless_two P c next true false r q p f = f refl refl
@@ -397,12 +412,12 @@ gets_keeps h c above g (Some v) k here f =
     by_test (Kept h c above) (is_some v.got) (clients.ignores c) (receipts.releases (record c { sequencer = sequencers.with_answer c.sequencer v.number g }) []) (λ e. ignored h c above k)
     (λ e. answered_keeps h c above v.number g k here (λ u r own i same. f v u r refl own i same))
 
-own_live : (c : clients.Client) (session : ℕ) → receipts.is_own_live c session ≡ true → (clients.is_joined c.state ≡ true) × (session ≡ clients.own_session c.state)
+pub own_live : (c : clients.Client) (session : ℕ) → receipts.is_own_live c session ≡ true → (clients.is_joined c.state ≡ true) × (session ≡ clients.own_session c.state)
 own_live c session e =
     let p : (clients.is_live_client c.state ≡ true) × (nat_eq session (clients.own_session c.state) ≡ true) = both (clients.is_live_client c.state) (nat_eq session (clients.own_session c.state)) e in
     (ap (λ b. if b then true else clients.is_closing c.state) p.0, equal session (clients.own_session c.state) p.1)
 
-own_joined : (c : clients.Client) (session : ℕ) → receipts.is_own c session ≡ true → (clients.is_joined c.state ≡ true) × (session ≡ clients.own_session c.state)
+pub own_joined : (c : clients.Client) (session : ℕ) → receipts.is_own c session ≡ true → (clients.is_joined c.state ≡ true) × (session ≡ clients.own_session c.state)
 own_joined c session e =
     let p : (clients.is_joined c.state ≡ true) × (nat_eq session (clients.own_session c.state) ≡ true) = both (clients.is_joined c.state) (nat_eq session (clients.own_session c.state)) e in
     (p.0, equal session (clients.own_session c.state) p.1)

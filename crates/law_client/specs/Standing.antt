@@ -149,3 +149,4 @@ pub record Stands (h : histories.History) (seat : inputs.Seat) : Type 0 where
   pub old : AllByRecursion (λ x. IsOld seat.client.me (next_opening seat.client) h (inputs.session_in x)) seat.above
   pub own : OwnStands h seat.client seat.above seat.client.state
   pub heard : (s opening : ℕ) → payloads.IsOpeningOf seat.client.me opening (lists.at_place h s) → HasHeard h seat.above s
+  pub numbered : (s opening : ℕ) → payloads.IsOpeningOf seat.client.me opening (lists.at_place h s) → AreNumbered (transcripts.calls s seat.above)
