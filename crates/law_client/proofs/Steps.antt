@@ -167,7 +167,7 @@ pub record Joined (h : histories.History) (c : clients.Client) (above : List Ite
   pub ends : standing.HasEnds s above 0
   pub unsent : standing.HasUnsent s above 0
 
-joined : (h : histories.History) (c : clients.Client) (above : List Item) (t : ClientState) → clients.is_joined t ≡ true → standing.OwnStands h c above t → Joined h c above (clients.own_session t)
+pub joined : (h : histories.History) (c : clients.Client) (above : List Item) (t : ClientState) → clients.is_joined t ≡ true → standing.OwnStands h c above t → Joined h c above (clients.own_session t)
 joined h c above (state.Live s) e k = record { own = k.0; ends = k.1; unsent = k.2 }
 joined h c above (state.Closing s) e k = record { own = k.0; ends = k.1; unsent = k.2 }
 joined h c above state.NoneYet e k = absurd (on e)

@@ -74,7 +74,7 @@ at_front : {X : Type 0} (xs ys : List X) (k : ℕ) (x : X) → at_place xs k ≡
 at_front xs ys zero x e = e
 at_front xs ys (suc k) x e = get_front xs ys k x e
 
-numbered_behind : (s : ℕ) (x : Item) (xs : List Item) → standing.AreNumbered (transcripts.calls s (x ∷ xs)) → standing.AreNumbered (transcripts.calls s xs)
+pub numbered_behind : (s : ℕ) (x : Item) (xs : List Item) → standing.AreNumbered (transcripts.calls s (x ∷ xs)) → standing.AreNumbered (transcripts.calls s xs)
 numbered_behind s x xs a = ⊎_elim
     (λ e. subst (λ cs. standing.AreNumbered (cs ++ transcripts.calls s xs)) e a)
     (λ (c : IsCall s x). (subst standing.AreNumbered (called_first s c.number c.call xs) (subst (λ y. standing.AreNumbered (transcripts.calls s (y ∷ xs))) c.is a)).1)

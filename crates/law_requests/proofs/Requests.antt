@@ -39,11 +39,11 @@ use Rattle.law_requests.specs.Requests as requests
 use Rattle.law_requests.proofs.Commands.{ranked, rank_behind, ranks_behind, numbered_behind}
 use Rattle.law_requests.proofs.Closes.{seat_after, stands_above, closes_stay}
 
-sent_each : (P : Payload → Type 0) (node : ℕ) (ps : List Payload) → AllByRecursion P ps → AllByRecursion (λ x. P x.1) (map (λ p. (node, p)) ps)
+sent_each : (P : Payload → Type 0) (node : ℕ) (ps : List Payload) → AllByRecursion P ps → AllByRecursion (λ (x : ℕ × Payload). P x.1) (map (λ p. (node, p)) ps)
 sent_each P node [] a = tt
 sent_each P node (p ∷ ps) a = (a.0, sent_each P node ps a.1)
 
-sent_all : (P : Payload → Type 0) (node : Option ℕ) (ps : List Payload) → AllByRecursion P ps → AllByRecursion (λ x. P x.1) (clients.sends_of node ps)
+sent_all : (P : Payload → Type 0) (node : Option ℕ) (ps : List Payload) → AllByRecursion P ps → AllByRecursion (λ (x : ℕ × Payload). P x.1) (clients.sends_of node ps)
 sent_all P None ps a = tt
 sent_all P (Some node) ps a = sent_each P node ps a
 
