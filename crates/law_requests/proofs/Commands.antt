@@ -1,6 +1,6 @@
 -- A command that was called is the one of its rank among the commands of its session.
-use Rattle.std.proofs.Common.{◌≡◌, ℕ, zero, suc, ◌+◌, ◌<◌, ◌≤◌, cond, List, [], ◌∷◌, ◌++◌, reverse, length, refl, ap, sym, ◌∙◌, subst, inl, inr, ⊎_elim, arith, count_by, flat_map, slice_get}
-use Rattle.std.specs.Prelude.{◌⊎◌, Bool, true, false, ◌&&◌, nat_eq, nat_le, Option, Some, None, if◌then◌else◌}
+use Rattle.std.proofs.Common.{◌≡◌, ℕ, zero, suc, ◌+◌, ◌≤◌, cond, List, [], ◌∷◌, ◌++◌, reverse, length, refl, ap, sym, ◌∙◌, subst, inl, inr, ⊎_elim, arith, count_by, flat_map, slice_get}
+use Rattle.std.specs.Prelude.{◌⊎◌, nat_eq, Some, if◌then◌else◌}
 use Rattle.std.proofs.lemmas.List.{length-append}
 use Rattle.std.proofs.lemmas.Grind.{flat_map-append}
 use Rattle.ax_types.specs.Places.{at_place}
@@ -52,13 +52,13 @@ commands_long s (x ∷ xs) =
     by_called (inl e) r =
         let none : length (flat_map claims_once.command_of (transcripts.called_by s x)) ≡ 0 = ap (λ cs. length (flat_map claims_once.command_of cs)) e in
         let same : count_by (λ w. transcripts.is_command w.1) (transcripts.calls s (x ∷ xs)) ≡ count_by (λ w. transcripts.is_command w.1) (transcripts.calls s xs) =
-            ap (λ cs. count_by (λ w. transcripts.is_command w.1) (cs ++ transcripts.calls s xs)) e in
+        ap (λ cs. count_by (λ w. transcripts.is_command w.1) (cs ++ transcripts.calls s xs)) e in
         omega (arith, none, same, r)
     by_called (inr c) r =
         let first : transcripts.called_by s x ≡ (c.number, c.call) ∷ [] = ap (λ y. transcripts.called_by s y) c.is ∙ called_alone s c.number c.call in
         let one : length (flat_map claims_once.command_of (transcripts.called_by s x)) ≡ cond (transcripts.is_command c.call) 1 0 = ap (λ cs. length (flat_map claims_once.command_of cs)) first ∙ one_command c.number c.call in
         let more : count_by (λ w. transcripts.is_command w.1) (transcripts.calls s (x ∷ xs)) ≡ cond (transcripts.is_command c.call) 1 0 + count_by (λ w. transcripts.is_command w.1) (transcripts.calls s xs) =
-            ap (λ cs. count_by (λ w. transcripts.is_command w.1) (cs ++ transcripts.calls s xs)) first ∙ count_more (λ w. transcripts.is_command w.1) (c.number, c.call) (transcripts.calls s xs) in
+        ap (λ cs. count_by (λ w. transcripts.is_command w.1) (cs ++ transcripts.calls s xs)) first ∙ count_more (λ w. transcripts.is_command w.1) (c.number, c.call) (transcripts.calls s xs) in
         omega (arith, one, more, r)
 
 at_end : {X : Type 0} (xs : List X) (x : X) → at_place (xs ++ x ∷ []) (suc (length xs)) ≡ Some x
@@ -115,11 +115,11 @@ ranked s n name o (x ∷ xs) a (inl e) = subst (λ y. at_place (claims_once.comm
         let long : length ys ≡ count_by (λ v. transcripts.is_command v.1) (transcripts.calls s xs) = commands_long s xs in
         let low = all_low many (transcripts.calls s xs) (omega arith) c.1 in
         let new : transcripts.commands_upto s (suc many) (item.Called s (suc many) w ∷ xs) ≡ 1 + count_by (λ v. transcripts.is_command v.1) (transcripts.calls s xs) =
-            new_rank many (count_by (λ v. transcripts.is_command v.1) (transcripts.calls s xs)) s w xs low refl in
+        new_rank many (count_by (λ v. transcripts.is_command v.1) (transcripts.calls s xs)) s w xs low refl in
         let rank : transcripts.commands_upto s n (y ∷ xs) ≡ suc (length ys) =
-            ap (λ k. transcripts.commands_upto s k (item.Called s k w ∷ xs)) number ∙ omega (arith, new, long) in
+        ap (λ k. transcripts.commands_upto s k (item.Called s k w ∷ xs)) number ∙ omega (arith, new, long) in
         let list : claims_once.commands s (reverse (y ∷ xs)) ≡ ys ++ (name, o) ∷ [] =
-            commands_more s y xs ∙ ap (λ cs. ys ++ flat_map claims_once.command_of cs) (called_alone s n w) in
+        commands_more s y xs ∙ ap (λ cs. ys ++ flat_map claims_once.command_of cs) (called_alone s n w) in
         ap (λ k. at_place (claims_once.commands s (reverse (y ∷ xs))) k) rank ∙ ap (λ cs. at_place cs (suc (length ys))) list ∙ at_end ys (name, o)
 ranked s n name o (x ∷ xs) a (inr b) =
     let front = at_front (claims_once.commands s (reverse xs)) (flat_map claims_once.command_of (transcripts.called_by s x)) (transcripts.commands_upto s n xs) (name, o) (ranked s n name o xs (numbered_behind s x xs a) b) in

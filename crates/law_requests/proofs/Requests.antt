@@ -1,6 +1,6 @@
 -- What a client sends, step by step, and that it stays true.
-use Rattle.std.proofs.Common.{◌≡◌, ℕ, zero, suc, ◌+◌, ◌≤◌, cond, List, [], ◌∷◌, ◌++◌, map, reverse, filter, find, refl, ap, sym, ◌∙◌, subst, inl, inr, ⊎_elim, arith}
-use Rattle.std.specs.Prelude.{◌⊎◌, Bool, true, false, ◌&&◌, not, is_some, nat_eq, nat_lt, nat_le, Option, Some, None, if◌then◌else◌}
+use Rattle.std.proofs.Common.{◌≡◌, ℕ, suc, ◌≤◌, cond, List, [], ◌∷◌, ◌++◌, map, reverse, filter, find, refl, ap, sym, ◌∙◌, subst, inl, inr, ⊎_elim, arith}
+use Rattle.std.specs.Prelude.{Bool, true, false, ◌&&◌, not, is_some, nat_eq, nat_lt, nat_le, Option, Some, None, if◌then◌else◌}
 use Rattle.std.specs.List.{AllByRecursion}
 use Rattle.ax_types.specs.Places as lists
 use Rattle.ax_types.specs.declared.entries.Batch.{Batch}
@@ -14,7 +14,6 @@ use Rattle.ax_types.specs.declared.ops.WindowCall.{WindowCall}
 use Rattle.ax_types.specs.declared.ops.WindowCall.TheVariants as call
 use Rattle.ax_types.specs.declared.packets.Payload.{Payload}
 use Rattle.ax_types.specs.declared.packets.Payload.TheVariants as payload
-use Rattle.ax_types.specs.declared.replies.How.{How}
 use Rattle.ax_types.specs.declared.sessions.ClientState.{ClientState}
 use Rattle.ax_types.specs.declared.sessions.ClientState.TheVariants as state
 use Rattle.ax_types.specs.declared.sessions.Got.{Got}
@@ -33,7 +32,7 @@ use Rattle.law_client.specs.Standing as standing
 use Rattle.law_client.specs.Promises as promises
 use Rattle.law_client.proofs.Lists.{IsAmong, among_behind, some_same, all_append}
 use Rattle.law_client.proofs.Own.{SameRanks}
-use Rattle.law_client.proofs.Steps.{Kept, Joined, joined, unless_if, unless_two, own_live, own_joined}
+use Rattle.law_client.proofs.Steps.{Kept, joined, unless_if, unless_two, own_live, own_joined}
 use Rattle.law_client.proofs.Promises.{new_client_stands, input_keeps, each_step_keeps}
 use Rattle.law_requests.specs.Requests as requests
 use Rattle.law_requests.proofs.Commands.{ranked, rank_behind, ranks_behind, numbered_behind}
@@ -91,8 +90,7 @@ request_says h c above r o a =
     by_call : (w : WindowCall) → transcripts.StandsIn (item.Called (clients.own_session c.state) r.number w) above
         → (u : sequencers.Unanswered) → standing.IsAskedSo above (clients.own_session c.state) u r w → requests.Says h (seat_of c above) (clients.request_payload c r w)
     by_call (call.Command name p) called u so =
-        let s = clients.own_session c.state in
-        (
+        let s = clients.own_session c.state in (
           from_own h c above s o,
           record { number = r.number; called = called; rank = so.2; in_order = subst (λ k. lists.at_place (claims_once.commands s (reverse above)) k ≡ Some (name, p)) (sym so.2) (ranked s r.number name p above o.numbers called) },
         )
@@ -149,8 +147,7 @@ again_says h c above k =
     (λ e. by_test (AllByRecursion P) (clients.is_joined c.state) (clients.connect_of c ∷ asked ++ closing) []
     (λ f.
     let s = clients.own_session c.state in
-    let o : standing.IsOwn h c above s = own_of h c above k f in
-    (
+    let o : standing.IsOwn h c above s = own_of h c above k f in (
       from_own h c above s o,
       all_append P asked closing
           (map_all P (clients.payload_of c) (clients.open_requests c) (λ r a. request_says h c above r o (among_filter (λ q. clients.lacks_answer c.sequencer.calls q.number) r c.requests a)))

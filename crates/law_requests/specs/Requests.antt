@@ -1,5 +1,5 @@
 -- What a client's requests say: its sessions, and its calls as their items show them.
-use Rattle.std.specs.Prelude.{ℕ, ◌≡◌, ◌≤◌, Some, List, [], ◌∷◌, ◌++◌, reverse}
+use Rattle.std.specs.Prelude.{ℕ, ◌≡◌, ◌≤◌, Some, List, [], ◌∷◌, reverse}
 use Rattle.std.specs.List.{AllByRecursion}
 use Rattle.ax_types.specs.Places as lists
 use Rattle.ax_types.specs.declared.items.Item.{Item}
