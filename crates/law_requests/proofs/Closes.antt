@@ -32,11 +32,11 @@ first_stands : (x : Item) (items above : List Item) → transcripts.StandsIn x (
 first_stands x items above = subst (transcripts.StandsIn x) (sym (reverse_onto x items above)) (stands_above x (reverse items) (x ∷ above) (inl refl))
 
 -- a client after a step, below what stands above
-abbrev pub seat_after : List Item → clients.ClientStep → inputs.Seat
-seat_after above next = record { client = next.client; above = reverse next.out.items ++ above }
+abbrev pub seat_of_step : List Item → clients.ClientStep → inputs.Seat
+seat_of_step above next = record { client = next.client; above = reverse next.out.items ++ above }
 
 abbrev Stays : List Item → ℕ → clients.ClientStep → Type 0
-Stays above s next = inputs.HasClosed (seat_after above next) s
+Stays above s next = inputs.HasClosed (seat_of_step above next) s
 
 not_live : (t : ClientState) (s : ℕ) → t ≡ state.Closing s → clients.is_live_client t ≡ true → ⊥
 not_live t s e f = on (ap (λ u. clients.is_live_client u) (sym e) ∙ f)
@@ -91,7 +91,7 @@ payload_waits c above s node (payload.Ended session place way) e =
 payload_waits c above s node p e = inl e
 
 -- a client that waits for the end of its session goes on to wait, or is told of it
-waits : (c : clients.Client) (above : List Item) (s : ℕ) (i : inputs.Input) → c.state ≡ state.Closing s → Stays above s (inputs.stepped c i)
+waits : (c : clients.Client) (above : List Item) (s : ℕ) (i : inputs.Input) → c.state ≡ state.Closing s → Stays above s (inputs.client_stepped c i)
 waits c above s (inputs.Opens node) e =
     unless_if (Stays above s) c (clients.opens c node) (clients.is_busy c.state) reason.SessionOpen (inl e) (λ f. absurd (on (sym f ∙ ap (λ u. clients.is_busy u) e)))
 waits c above s (inputs.Calls name o) e = call_waits c above s (clients.makes_call c name o) e
@@ -108,4 +108,4 @@ pub closes_stay : requests.ClosesStay
 closes_stay seat (inputs.Sees x) s (inl e) = inl e
 closes_stay seat (inputs.Sees x) s (inr (p, way, a)) = inr (p, way, inr a)
 closes_stay seat (inputs.Does i) s (inl e) = waits seat.client seat.above s i e
-closes_stay seat (inputs.Does i) s (inr (p, way, a)) = inr (p, way, stands_above (item.Ended s p way) (reverse (inputs.stepped seat.client i).out.items) seat.above a)
+closes_stay seat (inputs.Does i) s (inr (p, way, a)) = inr (p, way, stands_above (item.Ended s p way) (reverse (inputs.client_stepped seat.client i).out.items) seat.above a)

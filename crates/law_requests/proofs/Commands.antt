@@ -74,18 +74,18 @@ at_front : {X : Type 0} (xs ys : List X) (k : ℕ) (x : X) → at_place xs k ≡
 at_front xs ys zero x e = e
 at_front xs ys (suc k) x e = get_front xs ys k x e
 
-pub numbered_behind : (s : ℕ) (x : Item) (xs : List Item) → standing.AreNumbered (transcripts.calls s (x ∷ xs)) → standing.AreNumbered (transcripts.calls s xs)
+pub numbered_behind : (s : ℕ) (x : Item) (xs : List Item) → standing.AreNumberedDown (transcripts.calls s (x ∷ xs)) → standing.AreNumberedDown (transcripts.calls s xs)
 numbered_behind s x xs a = ⊎_elim
-    (λ e. subst (λ cs. standing.AreNumbered (cs ++ transcripts.calls s xs)) e a)
-    (λ (c : IsCall s x). (subst standing.AreNumbered (called_first s c.number c.call xs) (subst (λ y. standing.AreNumbered (transcripts.calls s (y ∷ xs))) c.is a)).1)
+    (λ e. subst (λ cs. standing.AreNumberedDown (cs ++ transcripts.calls s xs)) e a)
+    (λ (c : IsCall s x). (subst standing.AreNumberedDown (called_first s c.number c.call xs) (subst (λ y. standing.AreNumberedDown (transcripts.calls s (y ∷ xs))) c.is a)).1)
     (called_or_not s x)
 
 -- an item above a call leaves its rank
-pub ranks_behind : (s n : ℕ) (w : WindowCall) (x : Item) (xs : List Item) → standing.AreNumbered (transcripts.calls s (x ∷ xs)) → transcripts.StandsIn (item.Called s n w) xs → SameRanks s n x xs
+pub ranks_behind : (s n : ℕ) (w : WindowCall) (x : Item) (xs : List Item) → standing.AreNumberedDown (transcripts.calls s (x ∷ xs)) → transcripts.StandsIn (item.Called s n w) xs → SameRanks s n x xs
 ranks_behind s n w x xs a b = ⊎_elim
     (λ e. calls_none s n x xs e)
     (λ (c : IsCall s x).
-    let numbered : standing.AreNumbered ((c.number, c.call) ∷ transcripts.calls s xs) = subst standing.AreNumbered (called_first s c.number c.call xs) (subst (λ y. standing.AreNumbered (transcripts.calls s (y ∷ xs))) c.is a) in
+    let numbered : standing.AreNumberedDown ((c.number, c.call) ∷ transcripts.calls s xs) = subst standing.AreNumberedDown (called_first s c.number c.call xs) (subst (λ y. standing.AreNumberedDown (transcripts.calls s (y ∷ xs))) c.is a) in
     let number : c.number ≡ suc (length (transcripts.calls s xs)) = numbered.0 in
     let low : n ≤ length (transcripts.calls s xs) = among_low n w (transcripts.calls s xs) numbered.1 (stands_called s n w xs b) in
     let k = length (transcripts.calls s xs) in
@@ -95,21 +95,21 @@ ranks_behind s n w x xs a b = ⊎_elim
     record { upto = λ m l. there.upto m (omega (arith, l, low)); below = λ m l. there.below m (omega (arith, l, low)) })
     (called_or_not s x)
 
-pub rank_behind : (s n : ℕ) (w : WindowCall) (x : Item) (xs : List Item) → standing.AreNumbered (transcripts.calls s (x ∷ xs)) → transcripts.StandsIn (item.Called s n w) xs
+pub rank_behind : (s n : ℕ) (w : WindowCall) (x : Item) (xs : List Item) → standing.AreNumberedDown (transcripts.calls s (x ∷ xs)) → transcripts.StandsIn (item.Called s n w) xs
     → transcripts.commands_upto s n (x ∷ xs) ≡ transcripts.commands_upto s n xs
 rank_behind s n w x xs a b = (ranks_behind s n w x xs a b).upto n (omega arith)
 
-pub ranked : (s n : ℕ) (name : List ℕ) (o : Op) (xs : List Item) → standing.AreNumbered (transcripts.calls s xs) → transcripts.StandsIn (item.Called s n (call.Command name o)) xs
+pub ranked : (s n : ℕ) (name : List ℕ) (o : Op) (xs : List Item) → standing.AreNumberedDown (transcripts.calls s xs) → transcripts.StandsIn (item.Called s n (call.Command name o)) xs
     → at_place (claims_once.commands s (reverse xs)) (transcripts.commands_upto s n xs) ≡ Some (name, o)
 ranked s n name o [] a b = absurd b
-ranked s n name o (x ∷ xs) a (inl e) = subst (λ y. at_place (claims_once.commands s (reverse (y ∷ xs))) (transcripts.commands_upto s n (y ∷ xs)) ≡ Some (name, o)) (sym e) (first (subst (λ y. standing.AreNumbered (transcripts.calls s (y ∷ xs))) e a))
+ranked s n name o (x ∷ xs) a (inl e) = subst (λ y. at_place (claims_once.commands s (reverse (y ∷ xs))) (transcripts.commands_upto s n (y ∷ xs)) ≡ Some (name, o)) (sym e) (first (subst (λ y. standing.AreNumberedDown (transcripts.calls s (y ∷ xs))) e a))
   where
-    first : standing.AreNumbered (transcripts.calls s (item.Called s n (call.Command name o) ∷ xs)) → at_place (claims_once.commands s (reverse (item.Called s n (call.Command name o) ∷ xs))) (transcripts.commands_upto s n (item.Called s n (call.Command name o) ∷ xs)) ≡ Some (name, o)
+    first : standing.AreNumberedDown (transcripts.calls s (item.Called s n (call.Command name o) ∷ xs)) → at_place (claims_once.commands s (reverse (item.Called s n (call.Command name o) ∷ xs))) (transcripts.commands_upto s n (item.Called s n (call.Command name o) ∷ xs)) ≡ Some (name, o)
     first b =
         let w = call.Command name o in
         let y = item.Called s n w in
         let ys = claims_once.commands s (reverse xs) in
-        let c : standing.AreNumbered ((n, w) ∷ transcripts.calls s xs) = subst standing.AreNumbered (called_first s n w xs) b in
+        let c : standing.AreNumberedDown ((n, w) ∷ transcripts.calls s xs) = subst standing.AreNumberedDown (called_first s n w xs) b in
         let many = length (transcripts.calls s xs) in
         let number : n ≡ suc many = c.0 in
         let long : length ys ≡ count_by (λ v. transcripts.is_command v.1) (transcripts.calls s xs) = commands_long s xs in

@@ -36,7 +36,7 @@ use Rattle.law_client.proofs.Steps.{Kept, joined, unless_if, unless_two, own_liv
 use Rattle.law_client.proofs.Promises.{new_client_stands, input_keeps, each_step_keeps}
 use Rattle.law_requests.specs.Requests as requests
 use Rattle.law_requests.proofs.Commands.{ranked, rank_behind, ranks_behind, numbered_behind}
-use Rattle.law_requests.proofs.Closes.{seat_after, stands_above, closes_stay}
+use Rattle.law_requests.proofs.Closes.{seat_of_step, stands_above, closes_stay}
 
 sent_each : (P : Payload → Type 0) (node : ℕ) (ps : List Payload) → AllByRecursion P ps → AllByRecursion (λ (x : ℕ × Payload). P x.1) (map (λ p. (node, p)) ps)
 sent_each P node [] a = tt
@@ -66,12 +66,12 @@ map_all P f (x ∷ xs) g = (g x (inl refl), map_all P f xs (λ y a. g y (inr a))
 -- the call of a request
 record HasCall (h : histories.History) (above : List Item) (s : ℕ) (r : clients.Request) : Type 0 where
   unanswered : sequencers.Unanswered
-  asked : standing.IsAsked h above s unanswered r
+  asked : standing.IsOpenCall h above s unanswered r
 
-has_call : (h : histories.History) (above : List Item) (s done : ℕ) (us : List sequencers.Unanswered) (rs : List clients.Request) (r : clients.Request) → standing.AreAsked h above s done us rs → IsAmong r rs → HasCall h above s r
+has_call : (h : histories.History) (above : List Item) (s done : ℕ) (us : List sequencers.Unanswered) (rs : List clients.Request) (r : clients.Request) → standing.AreOpenCalls h above s done us rs → IsAmong r rs → HasCall h above s r
 has_call h above s done us [] r a b = absurd b
 has_call h above s done [] (q ∷ rs) r a b = absurd a
-has_call h above s done (u ∷ us) (q ∷ rs) r a (inl e) = record { unanswered = u; asked = subst (λ z. standing.IsAsked h above s u z) e a.1 }
+has_call h above s done (u ∷ us) (q ∷ rs) r a (inl e) = record { unanswered = u; asked = subst (λ z. standing.IsOpenCall h above s u z) e a.1 }
 has_call h above s done (u ∷ us) (q ∷ rs) r a (inr b) = has_call h above s (suc done) us rs r a.2 b
 
 abbrev seat_of : clients.Client → List Item → inputs.Seat
@@ -81,14 +81,14 @@ from_own : (h : histories.History) (c : clients.Client) (above : List Item) (s :
 from_own h c above s o = record { client = refl; opened = record { opening = c.switch.opening; opened = o.opening; there = o.there } }
 
 request_says : (h : histories.History) (c : clients.Client) (above : List Item) (r : clients.Request) → (o : standing.IsOwn h c above (clients.own_session c.state)) → IsAmong r c.requests
-    → requests.Says h (seat_of c above) (clients.payload_of c r)
+    → requests.RequestSays h (seat_of c above) (clients.payload_of c r)
 request_says h c above r o a =
     let s = clients.own_session c.state in
     let f : HasCall h above s r = has_call h above s o.done c.sequencer.calls c.requests r o.asked a in
     by_call r.call f.asked.called f.unanswered f.asked.asked_so
   where
     by_call : (w : WindowCall) → transcripts.StandsIn (item.Called (clients.own_session c.state) r.number w) above
-        → (u : sequencers.Unanswered) → standing.IsAskedSo above (clients.own_session c.state) u r w → requests.Says h (seat_of c above) (clients.request_payload c r w)
+        → (u : sequencers.Unanswered) → standing.IsAskedSo above (clients.own_session c.state) u r w → requests.RequestSays h (seat_of c above) (clients.request_payload c r w)
     by_call (call.Command name p) called u so =
         let s = clients.own_session c.state in (
           from_own h c above s o,
@@ -98,7 +98,7 @@ request_says h c above r o a =
 
 -- what a step sends, where the client stands after it as its steps keep it
 abbrev Say : histories.History → List Item → clients.ClientStep → Type 0
-Say h above next = standing.Stands h (seat_after above next) → requests.AllSay h (seat_after above next) next.out.sends
+Say h above next = standing.Stands h (seat_of_step above next) → requests.AllSay h (seat_of_step above next) next.out.sends
 
 own_of : (h : histories.History) (c : clients.Client) (above : List Item) → standing.Stands h (seat_of c above) → clients.is_joined c.state ≡ true → standing.IsOwn h c above (clients.own_session c.state)
 own_of h c above k e = (joined h c above c.state e k.own).own
@@ -108,11 +108,11 @@ live_joined t e = ap (λ b. if b then true else clients.is_closing t) e
 
 -- what is sent for a client that is as it is after the step
 server_says : (h : histories.History) (c d : clients.Client) (above items : List Item) (ps : List Payload)
-    → (standing.Stands h (seat_of d (reverse items ++ above)) → AllByRecursion (requests.Says h (seat_of d (reverse items ++ above))) ps)
+    → (standing.Stands h (seat_of d (reverse items ++ above)) → AllByRecursion (requests.RequestSays h (seat_of d (reverse items ++ above))) ps)
     → Say h above (clients.client_step d items (clients.to_server d ps))
-server_says h c d above items ps f k = sent_all (requests.Says h (seat_of d (reverse items ++ above))) d.switch.server ps (f k)
+server_says h c d above items ps f k = sent_all (requests.RequestSays h (seat_of d (reverse items ++ above))) d.switch.server ps (f k)
 
-register_says : (h : histories.History) (c : clients.Client) (above : List Item) → requests.Says h (seat_of c above) (clients.register_of c)
+register_says : (h : histories.History) (c : clients.Client) (above : List Item) → requests.RequestSays h (seat_of c above) (clients.register_of c)
 register_says h c above = (refl, omega arith)
 
 call_says : (h : histories.History) (c : clients.Client) (above : List Item) (seq : Option ℕ) (l : Option Level) (position m : ℕ) (w : WindowCall) → clients.is_live_client c.state ≡ true
@@ -137,9 +137,9 @@ closing_state state.Opening e = absurd (on e)
 closing_state (state.Live s) e = absurd (on e)
 closing_state (state.Ended s) e = absurd (on e)
 
-again_says : (h : histories.History) (c : clients.Client) (above : List Item) → standing.Stands h (seat_of c above) → AllByRecursion (requests.Says h (seat_of c above)) (clients.again_of c)
+again_says : (h : histories.History) (c : clients.Client) (above : List Item) → standing.Stands h (seat_of c above) → AllByRecursion (requests.RequestSays h (seat_of c above)) (clients.again_of c)
 again_says h c above k =
-    let P = requests.Says h (seat_of c above) in
+    let P = requests.RequestSays h (seat_of c above) in
     let closing : List Payload = if clients.is_closing c.state then clients.close_of c ∷ [] else [] in
     let asked = map (clients.payload_of c) (clients.open_requests c) in
     by_test (AllByRecursion P) (clients.is_opening c.state) (clients.register_of c ∷ []) (if clients.is_joined c.state then clients.connect_of c ∷ asked ++ closing else [])
@@ -157,12 +157,12 @@ again_says h c above k =
 
 -- a query that is asked again
 found_says : (h : histories.History) (c : clients.Client) (above : List Item) (o : standing.IsOwn h c above (clients.own_session c.state)) (n : ℕ) (q : Option clients.Request) → receipts.request c.requests n ≡ q
-    → AllByRecursion (requests.Says h (seat_of c above)) (receipts.payload_for c q)
+    → AllByRecursion (requests.RequestSays h (seat_of c above)) (receipts.payload_for c q)
 found_says h c above o n None e = tt
 found_says h c above o n (Some r) e = (request_says h c above r o (find_among (λ p. nat_eq p.number n) r c.requests e), tt)
 
 asked_again_says : (h : histories.History) (c : clients.Client) (above : List Item) (o : standing.IsOwn h c above (clients.own_session c.state)) (again : Option ℕ)
-    → AllByRecursion (requests.Says h (seat_of c above)) (receipts.asked_again c again)
+    → AllByRecursion (requests.RequestSays h (seat_of c above)) (receipts.asked_again c again)
 asked_again_says h c above o None = tt
 asked_again_says h c above o (Some n) = found_says h c above o n (receipts.request c.requests n) refl
 
@@ -205,7 +205,7 @@ payload_says h c above node (payload.Gap session last) =
     (λ e. server_says h c c above [] (receipts.gap_of c last)
     (λ k.
     let o = own_of h c above k (own_live c session e).0 in
-    map_all (requests.Says h (seat_of c above)) (clients.payload_of c) (filter above_last (clients.open_requests c))
+    map_all (requests.RequestSays h (seat_of c above)) (clients.payload_of c) (filter above_last (clients.open_requests c))
     (λ r a. request_says h c above r o (among_filter (λ q. clients.lacks_answer c.sequencer.calls q.number) r c.requests (among_filter above_last r (clients.open_requests c) a)))))
     (λ e k. tt)
 payload_says h c above node (payload.Batch session place prev events) =
@@ -216,7 +216,7 @@ payload_says h c above node (payload.Ended session place way) =
     by_test (Say h above) (receipts.is_own c session) (receipts.takes_end c session place way) (clients.ignores c) (λ e k. tt) (λ e k. tt)
 payload_says h c above node p = λ k. tt
 
-input_says : (h : histories.History) (c : clients.Client) (above : List Item) (i : inputs.Input) → Say h above (inputs.stepped c i)
+input_says : (h : histories.History) (c : clients.Client) (above : List Item) (i : inputs.Input) → Say h above (inputs.client_stepped c i)
 input_says h c above (inputs.Opens node) =
     let d : clients.Client = record c { switch = sequencers.with_opening (sequencers.moved_to c.switch node); state = state.Opening } in
     unless_if (Say h above) c (clients.opens c node) (clients.is_busy c.state) reason.SessionOpen (λ k. tt) (λ e. server_says h c d above [] (clients.register_of d ∷ []) (λ k. (register_says h d above, tt)))
@@ -247,8 +247,8 @@ requests_say_calls h seat i k m = input_says h seat.client seat.above i (each_st
 
 each_says : (h : histories.History) (seat : inputs.Seat) (xs : List inputs.Happening) → standing.Stands h seat → inputs.AllMayHappen h seat xs → requests.EachSays h seat xs
 each_says h seat [] k m = tt
-each_says h seat (inputs.Does i ∷ xs) k m = (requests_say_calls h seat i k m.0, each_says h (inputs.happened seat (inputs.Does i)) xs (each_step_keeps h seat (inputs.Does i) k m.0).stands m.1)
-each_says h seat (inputs.Sees x ∷ xs) k m = each_says h (inputs.happened seat (inputs.Sees x)) xs (each_step_keeps h seat (inputs.Sees x) k m.0).stands m.1
+each_says h seat (inputs.Does i ∷ xs) k m = (requests_say_calls h seat i k m.0, each_says h (inputs.seat_after seat (inputs.Does i)) xs (each_step_keeps h seat (inputs.Does i) k m.0).stands m.1)
+each_says h seat (inputs.Sees x ∷ xs) k m = each_says h (inputs.seat_after seat (inputs.Sees x)) xs (each_step_keeps h seat (inputs.Sees x) k m.0).stands m.1
 
 pub each_request_says : requests.EachRequestSays
 each_request_says h me xs m = each_says h (inputs.new_seat me) xs (new_client_stands h me) m
@@ -256,9 +256,9 @@ each_request_says h me xs m = each_says h (inputs.new_seat me) xs (new_client_st
 own_items : (h : histories.History) (seat : inputs.Seat) (xs : List inputs.Happening) → standing.Stands h seat → inputs.AllMayHappen h seat xs → requests.OwnItems h seat xs
 own_items h seat [] k m = tt
 own_items h seat (inputs.Does i ∷ xs) k m =
-    let s : Kept h seat.client seat.above (inputs.stepped seat.client i) = input_keeps h seat.client seat.above i k m.0 in
-    (s.owner, own_items h (inputs.happened seat (inputs.Does i)) xs s.stands m.1)
-own_items h seat (inputs.Sees x ∷ xs) k m = own_items h (inputs.happened seat (inputs.Sees x)) xs (each_step_keeps h seat (inputs.Sees x) k m.0).stands m.1
+    let s : Kept h seat.client seat.above (inputs.client_stepped seat.client i) = input_keeps h seat.client seat.above i k m.0 in
+    (s.owner, own_items h (inputs.seat_after seat (inputs.Does i)) xs s.stands m.1)
+own_items h seat (inputs.Sees x ∷ xs) k m = own_items h (inputs.seat_after seat (inputs.Sees x)) xs (each_step_keeps h seat (inputs.Sees x) k m.0).stands m.1
 
 pub own_items_are_of_own_sessions : requests.OwnItemsAreOfOwnSessions
 own_items_are_of_own_sessions h me xs m = own_items h (inputs.new_seat me) xs (new_client_stands h me) m
@@ -305,7 +305,7 @@ payload_grows c node (payload.Ended session place way) =
     by_test (Grows c) (receipts.is_own c session) (receipts.takes_end c session place way) (clients.ignores c) (λ e. same c.switch.opening) (λ e. same c.switch.opening)
 payload_grows c node p = same c.switch.opening
 
-input_grows : (c : clients.Client) (i : inputs.Input) → Grows c (inputs.stepped c i)
+input_grows : (c : clients.Client) (i : inputs.Input) → Grows c (inputs.client_stepped c i)
 input_grows c (inputs.Opens node) = unless_if (Grows c) c (clients.opens c node) (clients.is_busy c.state) reason.SessionOpen (same c.switch.opening) (λ e. omega arith)
 input_grows c (inputs.Calls name o) = call_grows c (clients.makes_call c name o) (same c.switch.opening)
 input_grows c (inputs.Queries l name q) = call_grows c (clients.queries c l name q) (same c.switch.opening)
@@ -318,7 +318,7 @@ input_grows c (inputs.Switches node) = same c.switch.opening
 input_grows c (inputs.Receives node p) = payload_grows c node p
 
 -- what a request says, with more items above
-command_more : (s seq : ℕ) (name : List ℕ) (o : Op) (ys above : List Item) → standing.AreNumbered (transcripts.calls s (ys ++ above)) → requests.IsCommandCalled above s seq name o → requests.IsCommandCalled (ys ++ above) s seq name o
+command_more : (s seq : ℕ) (name : List ℕ) (o : Op) (ys above : List Item) → standing.AreNumberedDown (transcripts.calls s (ys ++ above)) → requests.IsCommandCalled above s seq name o → requests.IsCommandCalled (ys ++ above) s seq name o
 command_more s seq name o [] above a c = c
 command_more s seq name o (y ∷ ys) above a c =
     let more = command_more s seq name o ys above (numbered_behind s y (ys ++ above) a) c in
@@ -330,7 +330,7 @@ command_more s seq name o (y ∷ ys) above a c =
       in_order = subst (λ k. lists.at_place (claims_once.commands s (reverse (y ∷ ys ++ above))) k ≡ Some (name, o)) (sym rank) (ranked s more.number name o (y ∷ ys ++ above) a (inr more.called));
     }
 
-query_more : (s n : ℕ) (l : Level) (seq : ℕ) (name : List ℕ) (q : Query) (ys above : List Item) → standing.AreNumbered (transcripts.calls s (ys ++ above)) → requests.IsQueryCalled above s n l seq name q → requests.IsQueryCalled (ys ++ above) s n l seq name q
+query_more : (s n : ℕ) (l : Level) (seq : ℕ) (name : List ℕ) (q : Query) (ys above : List Item) → standing.AreNumberedDown (transcripts.calls s (ys ++ above)) → requests.IsQueryCalled above s n l seq name q → requests.IsQueryCalled (ys ++ above) s n l seq name q
 query_more s n l seq name q [] above a c = c
 query_more s n l seq name q (y ∷ ys) above a c =
     let more = query_more s n l seq name q ys above (numbered_behind s y (ys ++ above) a) c in
@@ -349,7 +349,7 @@ from_more h seat d ys c s me f = record {
 
 says_more : (h : histories.History) (seat : inputs.Seat) (d : clients.Client) (ys : List Item) (p : Payload) → standing.Stands h (seat_of d (ys ++ seat.above)) → d.me ≡ seat.client.me → seat.client.switch.opening ≤ d.switch.opening
     → ((s : ℕ) → inputs.HasClosed seat s → inputs.HasClosed (seat_of d (ys ++ seat.above)) s)
-    → requests.Says h seat p → requests.Says h (seat_of d (ys ++ seat.above)) p
+    → requests.RequestSays h seat p → requests.RequestSays h (seat_of d (ys ++ seat.above)) p
 says_more h seat d ys (payload.Register c opening) k me le closes says = (says.0 ∙ sym me, omega (arith, says.1, le))
 says_more h seat d ys (payload.Keep c s answered heard) k me le closes says = from_more h seat d ys c s me says
 says_more h seat d ys (payload.Command c s seq name o) k me le closes says =
@@ -366,7 +366,7 @@ says_more h seat d ys p k me le closes says = absurd says
 pub requests_stay : requests.RequestsStay
 requests_stay h seat (inputs.Does i) p k m says =
     let s : promises.StepKeeps h seat (inputs.Does i) = each_step_keeps h seat (inputs.Does i) k m in
-    let next = inputs.stepped seat.client i in
+    let next = inputs.client_stepped seat.client i in
     says_more h seat next.client (reverse next.out.items) p s.stands s.me (input_grows seat.client i) (λ u closed. closes_stay seat (inputs.Does i) u closed) says
 requests_stay h seat (inputs.Sees x) p k m says =
     let s : promises.StepKeeps h seat (inputs.Sees x) = each_step_keeps h seat (inputs.Sees x) k m in

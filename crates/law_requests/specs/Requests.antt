@@ -35,49 +35,49 @@ pub record IsFrom (h : histories.History) (seat : inputs.Seat) (c s : ℕ) : Typ
   pub opened : standing.IsOpenedFor seat.client.me h seat.above s
 
 -- what a request of a client says; it sends no others
-abbrev pub Says : histories.History → inputs.Seat → Payload → Type 0
-Says h seat (payload.Register c opening) = (c ≡ seat.client.me) × (opening ≤ seat.client.switch.opening)
-Says h seat (payload.Keep c s answered heard) = IsFrom h seat c s
-Says h seat (payload.Command c s seq name o) = IsFrom h seat c s × IsCommandCalled seat.above s seq name o
-Says h seat (payload.Close c s) = IsFrom h seat c s × inputs.HasClosed seat s
-Says h seat (payload.Connect c s heard) = IsFrom h seat c s
-Says h seat (payload.Reset c s heard) = IsFrom h seat c s
-Says h seat (payload.Query c s n l seen seq name q) = IsFrom h seat c s × IsQueryCalled seat.above s n l seq name q
-Says h seat p = ⊥
+abbrev pub RequestSays : histories.History → inputs.Seat → Payload → Type 0
+RequestSays h seat (payload.Register c opening) = (c ≡ seat.client.me) × (opening ≤ seat.client.switch.opening)
+RequestSays h seat (payload.Keep c s answered heard) = IsFrom h seat c s
+RequestSays h seat (payload.Command c s seq name o) = IsFrom h seat c s × IsCommandCalled seat.above s seq name o
+RequestSays h seat (payload.Close c s) = IsFrom h seat c s × inputs.HasClosed seat s
+RequestSays h seat (payload.Connect c s heard) = IsFrom h seat c s
+RequestSays h seat (payload.Reset c s heard) = IsFrom h seat c s
+RequestSays h seat (payload.Query c s n l seen seq name q) = IsFrom h seat c s × IsQueryCalled seat.above s n l seq name q
+RequestSays h seat p = ⊥
 
 -- what a client sends in a step, by how it stands then
 abbrev pub AllSay : histories.History → inputs.Seat → List (ℕ × Payload) → Type 0
-AllSay h seat sends = AllByRecursion (λ x. Says h seat x.1) sends
+AllSay h seat sends = AllByRecursion (λ x. RequestSays h seat x.1) sends
 
 abbrev pub RequestsSayCalls : Type 0
 RequestsSayCalls = (h : histories.History) (seat : inputs.Seat) (i : inputs.Input) → standing.Stands h seat → inputs.MayReach h seat i
-    → AllSay h (inputs.happened seat (inputs.Does i)) (inputs.stepped seat.client i).out.sends
+    → AllSay h (inputs.seat_after seat (inputs.Does i)) (inputs.client_stepped seat.client i).out.sends
 
 -- each step of a client that was new, whatever happened at it
 abbrev pub EachSays : histories.History → inputs.Seat → List inputs.Happening → Type 0
 EachSays h seat [] = Unit {0}
-EachSays h seat (inputs.Does i ∷ xs) = AllSay h (inputs.happened seat (inputs.Does i)) (inputs.stepped seat.client i).out.sends × EachSays h (inputs.happened seat (inputs.Does i)) xs
-EachSays h seat (inputs.Sees x ∷ xs) = EachSays h (inputs.happened seat (inputs.Sees x)) xs
+EachSays h seat (inputs.Does i ∷ xs) = AllSay h (inputs.seat_after seat (inputs.Does i)) (inputs.client_stepped seat.client i).out.sends × EachSays h (inputs.seat_after seat (inputs.Does i)) xs
+EachSays h seat (inputs.Sees x ∷ xs) = EachSays h (inputs.seat_after seat (inputs.Sees x)) xs
 
 abbrev pub EachRequestSays : Type 0
-EachRequestSays = promises.Always (λ h me xs. EachSays h (inputs.new_seat me) xs)
+EachRequestSays = promises.AlwaysAtClient (λ h me xs. EachSays h (inputs.new_seat me) xs)
 
 -- what a request says stays so
 abbrev pub RequestsStay : Type 0
 RequestsStay = (h : histories.History) (seat : inputs.Seat) (x : inputs.Happening) (p : Payload) → standing.Stands h seat → inputs.MayHappen h seat x
-    → Says h seat p → Says h (inputs.happened seat x) p
+    → RequestSays h seat p → RequestSays h (inputs.seat_after seat x) p
 
 -- a close that was asked for stays so
 abbrev pub ClosesStay : Type 0
-ClosesStay = (seat : inputs.Seat) (x : inputs.Happening) (s : ℕ) → inputs.HasClosed seat s → inputs.HasClosed (inputs.happened seat x) s
+ClosesStay = (seat : inputs.Seat) (x : inputs.Happening) (s : ℕ) → inputs.HasClosed seat s → inputs.HasClosed (inputs.seat_after seat x) s
 
 -- the items of a step are of sessions that the history opens for the client, whose openings stand among the items
 abbrev pub OwnItems : histories.History → inputs.Seat → List inputs.Happening → Type 0
 OwnItems h seat [] = Unit {0}
 OwnItems h seat (inputs.Does i ∷ xs) =
-    let after = inputs.happened seat (inputs.Does i) in
-    AllByRecursion (λ x. standing.IsOfOwn after.client.me h after.above (inputs.session_in x)) (inputs.stepped seat.client i).out.items × OwnItems h after xs
-OwnItems h seat (inputs.Sees x ∷ xs) = OwnItems h (inputs.happened seat (inputs.Sees x)) xs
+    let after = inputs.seat_after seat (inputs.Does i) in
+    AllByRecursion (λ x. standing.IsOfOwn after.client.me h after.above (inputs.session_in x)) (inputs.client_stepped seat.client i).out.items × OwnItems h after xs
+OwnItems h seat (inputs.Sees x ∷ xs) = OwnItems h (inputs.seat_after seat (inputs.Sees x)) xs
 
 abbrev pub OwnItemsAreOfOwnSessions : Type 0
-OwnItemsAreOfOwnSessions = promises.Always (λ h me xs. OwnItems h (inputs.new_seat me) xs)
+OwnItemsAreOfOwnSessions = promises.AlwaysAtClient (λ h me xs. OwnItems h (inputs.new_seat me) xs)
