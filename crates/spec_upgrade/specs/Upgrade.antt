@@ -27,14 +27,14 @@ upgrade_line node u =
     call_lines.two_operands (codes "store") (decimal node) (call_lines.three_operands (codes "version") (decimal u.version) (codes "entries") (decimal u.entries))
 
 -- a line more, unless a later store is no journal
-abbrev pub with_line : List ℕ → Result (List (List ℕ)) Status → Result (List (List ℕ)) Status
-with_line line (Ok lines) = Ok (line ∷ lines)
-with_line line (Err bad) = Err bad
+abbrev pub with_upgrade_line : List ℕ → Result (List (List ℕ)) Status → Result (List (List ℕ)) Status
+with_upgrade_line line (Ok lines) = Ok (line ∷ lines)
+with_upgrade_line line (Err bad) = Err bad
 
 -- the lines of stores, the first of them of this node, or the first that is no journal
 abbrev pub upgrade_lines : ℕ → List journals.Journal → Result (List (List ℕ)) Status
 upgrade_lines node [] = Ok []
-upgrade_lines node (j ∷ js) = elim (finding_of j) [ Ok u ↦ with_line (upgrade_line node u) (upgrade_lines (suc node) js) | Err at ↦ Err (status.StoreBad node at) ]
+upgrade_lines node (j ∷ js) = elim (finding_of j) [ Ok u ↦ with_upgrade_line (upgrade_line node u) (upgrade_lines (suc node) js) | Err at ↦ Err (status.StoreBad node at) ]
 
 -- what an upgrade of the journals of nodes 1, 2, 3 .. writes, or the first that is no journal
 abbrev pub upgrade_text : List journals.Journal → Result (List ℕ) Status
