@@ -62,7 +62,7 @@ input_reaches : (l : ledgers.Ledger) (k : ℕ) (n : raft_nodes.Node) (o : Option
 input_reaches l k n None le = inl refl
 input_reaches l k n (Some i) le = reaches l.committed (node_steps.stepped n i) le
 
-out_committed : (n : raft_nodes.Node) (o : Option RaftInput) → (server_steps.raft_out n o).committed ≡ (server_steps.raft_after n o).commit
+pub out_committed : (n : raft_nodes.Node) (o : Option RaftInput) → (server_steps.raft_out n o).committed ≡ (server_steps.raft_after n o).commit
 out_committed n None = refl
 out_committed n (Some i) = refl
 
@@ -72,12 +72,12 @@ pub record Stands (l : ledgers.Ledger) (w : worlds.World) : Type 0 where
   pub hosts : (k : ℕ) (h : worlds.Host) → lists.at_place w.hosts k ≡ Some h → laws.HasApplied w.timeout l.committed h
 
 -- a server that took an input, where what is committed grew
-record Serves (timeout : ℕ) (old new : List Entry) (h : worlds.Host) (i : ServerInput) : Type 0 where
-  begins : once.Begins old new
-  before : laws.HasApplied timeout old h
-  rises : h.server.raft.commit ≤ (server_steps.server_after h.server i).raft.commit
-  holds : laws.HoldsCommitted new (server_steps.server_after h.server i).raft.log (server_steps.server_after h.server i).raft.commit
-  reached : (new ≡ old) ⊎ (length new ≡ (server_steps.server_after h.server i).raft.commit)
+pub record Serves (timeout : ℕ) (old new : List Entry) (h : worlds.Host) (i : ServerInput) : Type 0 where
+  pub begins : once.Begins old new
+  pub before : laws.HasApplied timeout old h
+  pub rises : h.server.raft.commit ≤ (server_steps.server_after h.server i).raft.commit
+  pub holds : laws.HoldsCommitted new (server_steps.server_after h.server i).raft.log (server_steps.server_after h.server i).raft.commit
+  pub reached : (new ≡ old) ⊎ (length new ≡ (server_steps.server_after h.server i).raft.commit)
 
 -- the entries that it applies
 applies : (timeout : ℕ) (old new : List Entry) (h : worlds.Host) (i : ServerInput) → Serves timeout old new h i
@@ -146,30 +146,40 @@ applied_stays timeout old new h b a =
     }
 
 -- each step
-serves_stands : (n : ℕ) (l : ledgers.Ledger) (w v : worlds.World) (k : ℕ) (h : worlds.Host) (i : ServerInput) → MatchedAll n l w → Stands l w → plan_cases.IsAlike w v → lists.at_place w.hosts k ≡ Some h → h.is_up ≡ true → plan_cases.IsInputOf w k h i
-    → Stands (ledgers.with_input l k h.server.raft (servers.task h.server i).input) (moves.serves v k h i (server_steps.server_out h.server i)).world
-serves_stands n l w v k h i all s a at up known =
+abbrev pub after_serves : worlds.World → ℕ → worlds.Host → ServerInput → worlds.World
+after_serves v k h i = (moves.serves v k h i (server_steps.server_out h.server i)).world
+
+pub serves_matched : (n : ℕ) (l : ledgers.Ledger) (w v : worlds.World) (k : ℕ) (h : worlds.Host) (i : ServerInput) → MatchedAll n l w → plan_cases.IsAlike w v → lists.at_place w.hosts k ≡ Some h → h.is_up ≡ true → plan_cases.IsInputOf w k h i
+    → hosts.IsMatched n (λ j. 0) (ledgers.with_input l k h.server.raft (servers.task h.server i).input) (after_serves v k h i)
+serves_matched n l w v k h i all a at up known = serves_well n (λ j. 0) l w v k h i (moves.history_with v.history (server_steps.server_out h.server i)) (all (λ j. 0)) a at up known
+
+pub serves_facts : (n : ℕ) (l : ledgers.Ledger) (w v : worlds.World) (k : ℕ) (h : worlds.Host) (i : ServerInput) → MatchedAll n l w → Stands l w → plan_cases.IsAlike w v → lists.at_place w.hosts k ≡ Some h → h.is_up ≡ true → plan_cases.IsInputOf w k h i
+    → Serves w.timeout l.committed (ledgers.with_input l k h.server.raft (servers.task h.server i).input).committed h i
+serves_facts n l w v k h i all s a at up known =
     let o : Option RaftInput = (servers.task h.server i).input in
     let new : ledgers.Ledger = ledgers.with_input l k h.server.raft o in
     let x : worlds.Host = record h { server = server_steps.server_after h.server i } in
-    let after : worlds.World = (moves.serves v k h i (server_steps.server_out h.server i)).world in
-    let m : hosts.IsMatched n (λ j. 0) l w = all (λ j. 0) in
-    let m2 : hosts.IsMatched n (λ j. 0) new after = serves_well n (λ j. 0) l w v k h i (moves.history_with v.history (server_steps.server_out h.server i)) m a at up known in
     let at_v : lists.at_place v.hosts k ≡ Some h = ap (λ hs. lists.at_place hs k) a.hosts ∙ at in
-    let held : laws.HoldsCommitted new.committed x.server.raft.log x.server.raft.commit = holds_committed n (λ j. 0) new after k x m2 (change_here v.hosts k h x at_v) up in
-    let begins : once.Begins l.committed new.committed = input_grows n (λ j. 0) l w k h i m at up known in
-    let r : Serves w.timeout l.committed new.committed h i = record {
-      begins = begins;
+    let held : laws.HoldsCommitted new.committed x.server.raft.log x.server.raft.commit = holds_committed n (λ j. 0) new (after_serves v k h i) k x (serves_matched n l w v k h i all a at up known) (change_here v.hosts k h x at_v) up in
+    record {
+      begins = input_grows n (λ j. 0) l w k h i (all (λ j. 0)) at up known;
       before = s.hosts k h at;
       rises = (raft_goes h.server.raft o).commit;
       holds = held;
       reached = input_reaches l k h.server.raft o held.long;
-    } in
+    }
+
+serves_stands : (n : ℕ) (l : ledgers.Ledger) (w v : worlds.World) (k : ℕ) (h : worlds.Host) (i : ServerInput) → MatchedAll n l w → Stands l w → plan_cases.IsAlike w v → lists.at_place w.hosts k ≡ Some h → h.is_up ≡ true → plan_cases.IsInputOf w k h i
+    → Stands (ledgers.with_input l k h.server.raft (servers.task h.server i).input) (after_serves v k h i)
+serves_stands n l w v k h i all s a at up known =
+    let new : ledgers.Ledger = ledgers.with_input l k h.server.raft (servers.task h.server i).input in
+    let x : worlds.Host = record h { server = server_steps.server_after h.server i } in
+    let r : Serves w.timeout l.committed new.committed h i = serves_facts n l w v k h i all s a at up known in
     let old : Stands l v = same_stands l w v a.timeout a.history a.hosts s in
     record {
       history = ap (λ hs. moves.history_with hs (server_steps.server_out h.server i)) (a.history ∙ s.history) ∙ serves_history w.timeout l.committed new.committed h i r ∙ ap (λ t. kept_stores.acts_of t new.committed) (sym a.timeout);
       hosts = placed (λ j y. laws.HasApplied v.timeout new.committed y) v.hosts k x (subst (λ t. laws.HasApplied t new.committed x) (sym a.timeout) (serves_state w.timeout l.committed new.committed h i r))
-          (λ j y e. applied_stays v.timeout l.committed new.committed y begins (old.hosts j y e));
+          (λ j y e. applied_stays v.timeout l.committed new.committed y r.begins (old.hosts j y e));
     }
 
 carried_stands : (n : ℕ) (l : ledgers.Ledger) (w : worlds.World) (p : plans.Plan) (o : StepOutcome) → plan_cases.IsCase w p → MatchedAll n l w → Stands l w → Stands (ledgers.ledger_in l p o) (moves.carried p o).world
@@ -222,7 +232,7 @@ pub record SoFar (n clients time : ℕ) (l : ledgers.Ledger) (w : worlds.World) 
   pub matched : MatchedAll n l w
   pub stands : Stands l w
 
-step_so_far : (n clients time : ℕ) (l : ledgers.Ledger) (w : worlds.World) (k : KeptStep) → SoFar n clients time l w → SoFar n clients time (ledgers.ledger_by l w k) (moves.moved w k).world
+pub step_so_far : (n clients time : ℕ) (l : ledgers.Ledger) (w : worlds.World) (k : KeptStep) → SoFar n clients time l w → SoFar n clients time (ledgers.ledger_by l w k) (moves.moved w k).world
 step_so_far n clients time l w k f =
     let p : plans.Plan = plans.plan w k.step in
     let c : plan_cases.IsCase w p = plan_case w k.step in
@@ -254,7 +264,7 @@ new_hosts : (n time : ℕ) (k : ℕ) (h : worlds.Host) → lists.at_place (map (
 new_hosts n time zero h e = none_some h e
 new_hosts n time (suc j) h e = new_applied n time 1 n j h e
 
-new_so_far : (n clients time : ℕ) → SoFar n clients time ledgers.new_ledger (worlds.new_world n clients time)
+pub new_so_far : (n clients time : ℕ) → SoFar n clients time ledgers.new_ledger (worlds.new_world n clients time)
 new_so_far n clients time = record { numbers = new_numbers n clients time; matched = new_matched n clients time; stands = record { history = refl; hosts = new_hosts n time } }
 
 pub run_so_far : (n clients time : ℕ) (steps : List KeptStep) → SoFar n clients time (ledgers.ledger_of n clients time steps) (runs.run n clients time steps).world
