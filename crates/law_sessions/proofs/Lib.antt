@@ -1,0 +1,9 @@
+pub mod Finding
+pub mod Signs
+pub mod States
+pub mod Effects
+pub mod Runs
+pub mod Lawful
+pub mod Commands
+pub mod Kept
+pub mod Telling

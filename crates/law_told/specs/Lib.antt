@@ -1,0 +1,2 @@
+pub mod ToldEvents
+pub mod Truth
