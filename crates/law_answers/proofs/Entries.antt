@@ -1,7 +1,6 @@
 -- What entries that are applied send is true.
-use Rattle.std.proofs.Common.{◌≡◌, ℕ, suc, Bool, true, false, cond, ◌&&◌, nat_eq, List, [], ◌∷◌, ◌++◌, Option, Some, None, refl, sym, ap, ◌∙◌, subst, append-nil, append_assoc}
+use Rattle.std.proofs.Common.{◌≡◌, ℕ, suc, ◌&&◌, nat_eq, List, [], ◌∷◌, ◌++◌, Option, Some, None, refl, sym, ap, ◌∙◌, subst, append_assoc}
 use Rattle.std.specs.List.{AllByRecursion}
-use Rattle.ax_types.specs.declared.entries.Act.{Act}
 use Rattle.ax_types.specs.declared.entries.Batch.{Batch}
 use Rattle.ax_types.specs.declared.entries.Entry.{Entry}
 use Rattle.ax_types.specs.declared.ids.End.{End}
@@ -69,11 +68,11 @@ all_sent timeout done (e ∷ es) items n cs =
     let a : Applied = sessions.applied_of s (suc s.applied) e in
     let next : folds.sessions_after timeout (done ++ e ∷ []) ≡ sessions.applying s (suc s.applied) e = state_split (sessions.new_sessions timeout) done (e ∷ []) in
     let here = packets_grow items (kept_stores.acts_of timeout (done ++ e ∷ [])) (kept_stores.acts_from (folds.sessions_after timeout (done ++ e ∷ [])) es) (server_steps.entry_answer n e a.answer ++ server_steps.batches_to n cs a.batches)
-        (entry_sent items (kept_stores.acts_of timeout (done ++ e ∷ [])) n cs e a (entry_gives_fold timeout done e)) in
+    (entry_sent items (kept_stores.acts_of timeout (done ++ e ∷ [])) n cs e a (entry_gives_fold timeout done e)) in
     let whole : kept_stores.acts_of timeout (done ++ e ∷ []) ++ kept_stores.acts_from (folds.sessions_after timeout (done ++ e ∷ [])) es ≡ kept_stores.acts_of timeout (done ++ e ∷ es) =
-        sym (acts_split (sessions.new_sessions timeout) (done ++ e ∷ []) es) ∙ ap (kept_stores.acts_of timeout) (append_assoc done (e ∷ []) es) in
+    sym (acts_split (sessions.new_sessions timeout) (done ++ e ∷ []) es) ∙ ap (kept_stores.acts_of timeout) (append_assoc done (e ∷ []) es) in
     let rest = subst (λ x. laws.AreTruePackets items (kept_stores.acts_of timeout (done ++ e ∷ es)) (server_steps.applying_all n cs x es).packets) next
-        (subst (λ xs. laws.AreTruePackets items (kept_stores.acts_of timeout xs) (server_steps.applying_all n cs (folds.sessions_after timeout (done ++ e ∷ [])) es).packets) (append_assoc done (e ∷ []) es) (all_sent timeout (done ++ e ∷ []) es items n cs)) in
+    (subst (λ xs. laws.AreTruePackets items (kept_stores.acts_of timeout xs) (server_steps.applying_all n cs (folds.sessions_after timeout (done ++ e ∷ [])) es).packets) (append_assoc done (e ∷ []) es) (all_sent timeout (done ++ e ∷ []) es items n cs)) in
     all_append (λ p. laws.IsTrueTo items (kept_stores.acts_of timeout (done ++ e ∷ es)) p.to p.payload) (server_steps.entry_answer n e a.answer ++ server_steps.batches_to n cs a.batches)
     (server_steps.applying_all n cs (sessions.applying s (suc s.applied) e) es).packets
     (subst (λ h. laws.AreTruePackets items h (server_steps.entry_answer n e a.answer ++ server_steps.batches_to n cs a.batches)) whole here) rest

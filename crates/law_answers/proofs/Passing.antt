@@ -1,5 +1,5 @@
 -- What a server passes on.
-use Rattle.std.proofs.Common.{◌≡◌, ℕ, suc, Bool, true, false, cond, not, ◌&&◌, nat_lt, nat_le, nat_eq, length, List, [], ◌∷◌, ◌++◌, Option, Some, None, map, filter, refl, sym, ap, ◌∙◌, subst, append_assoc}
+use Rattle.std.proofs.Common.{◌≡◌, ℕ, suc, Bool, cond, not, ◌&&◌, nat_lt, nat_le, nat_eq, length, List, [], ◌∷◌, ◌++◌, Option, Some, None, map, refl, append_assoc}
 use Rattle.std.specs.List.{AllByRecursion}
 use Rattle.ax_types.specs.declared.entries.Batch.{Batch}
 use Rattle.ax_types.specs.declared.entries.Body.{Body}

@@ -1,6 +1,6 @@
 -- What a server passes on: to and from its Raft node, to the leader, and into the log.
-use Rattle.std.specs.Prelude.{◌≡◌, ℕ, Option, Some, None, List, [], ◌∷◌, ◌++◌}
-use Rattle.std.specs.List.{AllByRecursion, list_any}
+use Rattle.std.specs.Prelude.{◌≡◌, ℕ, Option, Some, None, List, ◌++◌}
+use Rattle.std.specs.List.{AllByRecursion}
 use Rattle.ax_types.specs.declared.entries.Body.{Body}
 use Rattle.ax_types.specs.declared.entries.Body.TheVariants as body
 use Rattle.ax_types.specs.declared.ids.End.{End}

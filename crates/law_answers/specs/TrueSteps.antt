@@ -1,5 +1,5 @@
 -- What a server tells clients in a step is true of the items and of the committed entries after it. `items` has the last first.
-use Rattle.std.specs.Prelude.{◌≡◌, ◌≤◌, ℕ, suc, false, Option, Some, None, List, [], ◌∷◌, ◌++◌, length, take, reverse}
+use Rattle.std.specs.Prelude.{◌≡◌, ◌≤◌, ℕ, false, Some, List, [], ◌∷◌, ◌++◌, length, take, reverse}
 use Rattle.std.specs.List.{AllByRecursion}
 use Rattle.ax_types.specs.declared.entries.Entry.{Entry}
 use Rattle.ax_types.specs.declared.entries.Loaded.{Loaded}
@@ -16,7 +16,6 @@ use Rattle.spec_book.specs.History as histories
 use Rattle.spec_claims.specs.Transcript as transcripts
 use Rattle.spec_claims.specs.Payloads as payloads
 use Rattle.spec_node.specs.Node as raft_nodes
-use Rattle.spec_sessions.specs.Sessions as sessions
 use Rattle.spec_server.specs.Gates as gates
 use Rattle.spec_server.specs.Servers as servers
 use Rattle.spec_server.specs.ServerStep as server_steps
