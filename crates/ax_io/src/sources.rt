@@ -1,6 +1,7 @@
 ghost use Rattle.std.specs.Prelude.{◌≡◌, ℕ, ◌+◌, ◌<◌, ◌≤◌, List, length, [], Option, OnOk, OnErr, IfOk, IsErrOf, IfSome, vec_len};
 ghost use Rattle.ax_io.specs.Count as counts;
 ghost use Rattle.ax_io.specs.Content as ax_io_content;
+ghost use Rattle.ax_io.specs.ReadError as read_errors;
 ghost use Rattle.ax_io.specs.declared.sources.ReadError.TheVariants.{Failed as ReadFailed, NoMemory as WithoutMemory};
 
 use super::Failed;
@@ -77,6 +78,7 @@ pub fn read_up_to<S: Source>(
     most: usize,
 ) -> Result<List<u8>, ReadError>
     ensures count { S.faults source.old ≤ S.faults source.new }
+    ensures stands { read_errors.StandsUnlessFailed (S.faults source.old) (S.faults source.new) result }
     ensures failed { IsErrOf result ReadError.Failed → counts.Rose (S.faults source.old) (S.faults source.new) }
     ensures ok { IfOk result (ax_io_content.ReadsFirst (S.content source.old) (S.content source.new) most) }
     ensures lost { OnErr result (ax_io_content.LosesFront (S.content source.old) (S.content source.new)) }
@@ -103,6 +105,7 @@ fn read_block<S: Source>(
     requires left { 0 < left }
     requires block { 0 < length block.old }
     ensures count { S.faults source.old ≤ S.faults source.new }
+    ensures stands { read_errors.StandsUnlessFailed (S.faults source.old) (S.faults source.new) result }
     ensures failed { IsErrOf result ReadError.Failed → counts.Rose (S.faults source.old) (S.faults source.new) }
     ensures within { IfOk result (λ n. (n ≤ left) × (vec_len bytes.new ≡ vec_len bytes.old + n)) }
     // The bytes that were read, and then those still to come, stay the same list.

@@ -47,7 +47,6 @@ impl<R: Read> Source for StdSource<R> {
         ensures moved { IfOk result (λ n. Consumes
             (R.remaining self.old.inner) (R.remaining self.new.inner) (take n buf.new)) }
         ensures ends { IfOk result (λ n. n ≡ 0 → 0 < length buf.old → IsAtEnd (R.remaining self.new.inner)) }
-        ensures count { OnOk result (self.new.faults ≡ self.old.faults) }
     {
         match read_some(&mut self.reader, buf) {
             Some(n) => Ok(n),
@@ -117,7 +116,6 @@ impl<W: Write> Sink for StdSink<W> {
         // Where it is known what the writer holds, it holds the bytes too.
         ensures taken { OnOk result (Appends
             (W.contents self.old.inner) (W.contents self.new.inner) bytes.now) }
-        ensures count { OnOk result (self.new.faults ≡ self.old.faults) }
     {
         if self.writer.write_all(bytes).is_ok() && self.writer.flush().is_ok() {
             return Ok(());

@@ -32,7 +32,7 @@ use Rattle.law_refinement.proofs.Stores as stores
 use Rattle.law_refinement.proofs.Orders.{all_at, others_of, keeps_order, keeps_order_all, new_order}
 
 -- the packets of a step are sent
-abbrev all_sent : List Packet → List Packet → List Packet
+abbrev pub all_sent : List Packet → List Packet → List Packet
 all_sent sent [] = sent
 all_sent sent (p ∷ ps) = all_sent (p ∷ sent) ps
 
@@ -59,10 +59,10 @@ sends_all s [] h = nothing s
 sends_all s (p ∷ ps) h = joined s (systems.with_sent s p) (with_all_sent s (p ∷ ps)) (once s (transitions.Send p) h.0) (sends_all (systems.with_sent s p) ps (all_later s p ps h.1))
 
 -- a step that is made
-abbrev made_system : systems.System → ℕ → nodes.Node → RaftInput → systems.System
+abbrev pub made_system : systems.System → ℕ → nodes.Node → RaftInput → systems.System
 made_system s j n i = record { cluster = clusters.gains s.cluster j n (steps.stepped n i) (steps.out n i); sent = all_sent s.sent (steps.did n i).packets }
 
-makes : (s : systems.System) (j : ℕ) (n : nodes.Node) (i : RaftInput) → systems.IsUp s j n → Carried s j n n (steps.did n i) → Fragment s (made_system s j n i)
+pub makes : (s : systems.System) (j : ℕ) (n : nodes.Node) (i : RaftInput) → systems.IsUp s j n → Carried s j n n (steps.did n i) → Fragment s (made_system s j n i)
 makes s j n i up c =
     let d : nodes.Did = steps.did n i in
     let x : systems.System = settled s j n d in
@@ -101,7 +101,7 @@ remains_kept s j n d left up c (stores.Added k e) =
     (sym (e ∙ (ap (λ kept. stores.lengthened d.add k (stores.shortened (steps.cut_save d.cut) kept)) (stores.vote_kept n d.node) ∙ ap (stores.lengthened d.add k) (stores.cut_kept d.cut v))))
     (c.added k)
 
-halts : (s : systems.System) (j : ℕ) (n : nodes.Node) (i : RaftInput) (saved added : ℕ) → systems.IsUp s j n → Carried s j n n (steps.did n i)
+pub halts : (s : systems.System) (j : ℕ) (n : nodes.Node) (i : RaftInput) (saved added : ℕ) → systems.IsUp s j n → Carried s j n n (steps.did n i)
     → Fragment s (systems.member_changed s j (clusters.fallen_member n (saving.kept_after (nodes.kept_of n) (saving.calls_of (steps.out n i).saves) saved added)))
 halts s j n i saved added up c =
     let d : nodes.Did = steps.did n i in

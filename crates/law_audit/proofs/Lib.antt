@@ -1,0 +1,9 @@
+mod Tests
+mod Same
+mod Walks
+mod Lawful
+mod Calls
+mod Conditions
+mod Sessions
+mod Ends
+mod Verdict

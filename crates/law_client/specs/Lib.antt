@@ -1,0 +1,4 @@
+pub mod Inputs
+pub mod Standing
+pub mod Promises
+pub mod Example

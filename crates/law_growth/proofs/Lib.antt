@@ -1,0 +1,5 @@
+pub mod NodesStay
+pub mod ClientsStay
+pub mod Cases
+pub mod Numbers
+pub mod Sent

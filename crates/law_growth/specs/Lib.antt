@@ -1,0 +1,2 @@
+pub mod PlanCases
+pub mod Staying

@@ -1,0 +1,6 @@
+pub mod Rules
+pub mod Tasks
+pub mod Quiet
+pub mod Below
+pub mod Leads
+pub mod Order

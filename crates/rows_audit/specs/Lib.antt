@@ -1,0 +1,2 @@
+pub mod FaithfulReports
+pub mod BrokenReports

@@ -1,0 +1,2 @@
+//! Definitions of a salvage: what the stores of a cluster still tell of its history.
+#![tactic(auto)]
