@@ -1,1 +1,2 @@
 pub mod Unwatched
+pub mod Effects
