@@ -1,5 +1,5 @@
 -- What a step does at the seats: nothing, one input of one client, or one more watch.
-use Rattle.std.proofs.Common.{◌≡◌, ℕ, zero, suc, List, [], ◌∷◌, ◌++◌, map, length, refl, ap, sym, ◌∙◌, subst, inl, inr}
+use Rattle.std.proofs.Common.{◌≡◌, ℕ, zero, suc, List, [], ◌∷◌, ◌++◌, map, length, take, refl, ap, sym, ◌∙◌, subst, inl, inr}
 use Rattle.std.specs.Prelude.{Bool, true, false, ◌-◌, slice_get, nat_lt, Option, Some, None, if◌then◌else◌}
 use Rattle.std.specs.List.{AllByRecursion, list_any}
 use Rattle.ax_types.specs.Places as lists
@@ -72,12 +72,15 @@ led_aside k (Some t) = (refl, tt)
 commit_aside : (before after : ℕ) → AreAside (moves.commit_item before after)
 commit_aside before after = by_test AreAside (nat_lt before after) (item.Commit after ∷ []) [] (λ e. (refl, tt)) (λ e. tt)
 
+three_aside : (a b c : List Item) → AreAside a → AreAside b → AreAside c → AreAside (a ++ b ++ c)
+three_aside a b c x y z = all_append (λ i. inputs.session_in i ≡ None) (a ++ b) c (all_append (λ i. inputs.session_in i ≡ None) a b x y) z
+
 server_aside : (w : worlds.World) (k : ℕ) (s : servers.Server) (i : ServerInput) → AreAside (moves.server_items w k (server_steps.server_out s i))
 server_aside w k s i =
     let t = servers.task s i in
     let g = server_steps.stage s t in
-    all_append (λ x. inputs.session_in x ≡ None) (moves.leader_item k (server_steps.led_term g.raft g.out.led)) _ (led_aside k (server_steps.led_term g.raft g.out.led))
-    (all_append (λ x. inputs.session_in x ≡ None) (moves.commit_item (length w.history) g.out.committed) _ (commit_aside (length w.history) g.out.committed) (reach_aside g.raft t.read g.out.reached))
+    three_aside (moves.leader_item k (server_steps.led_term g.raft g.out.led)) (moves.commit_item (length w.history) g.out.committed) (moves.option_item (server_steps.reach_item g.raft t.read g.out.reached))
+    (led_aside k (server_steps.led_term g.raft g.out.led)) (commit_aside (length w.history) g.out.committed) (reach_aside g.raft t.read g.out.reached)
 
 serves : (w v : worlds.World) (k : ℕ) (h : worlds.Host) (i : ServerInput) → v.seats ≡ w.seats → Planned w (plans.Serves v k h i)
 serves w v k h i same outcome.Fine = Aside same (server_aside v k h.server i)
@@ -195,7 +198,11 @@ drops w number (Some r) = skips w r
 drops w number None = shows w (record w { bag = bags.with_mark w.bag number }) [] refl tt
 
 pending_aside : (bag : bags.Bag) → AreAside (bags.pending_items bag)
-pending_aside bag = ?
+pending_aside bag = each (take bags.most_shown (bags.unmarked bag))
+  where
+    each : (xs : List (ℕ × Packet)) → AreAside (map bags.pending_item xs)
+    each [] = tt
+    each (x ∷ xs) = (refl, each xs)
 
 unless_none : (r : Option SkipReason) (c : clients.Client) (next : clients.ClientStep) → r ≡ None → inputs.unless r c next ≡ next
 unless_none r c next e = ap (λ q. inputs.unless q c next) e

@@ -36,7 +36,7 @@ use Rattle.law_client.proofs.Shown.{ShowsNone, aside, none_below}
 use Rattle.law_seats.specs.Seats.{unwatched}
 
 -- an item that a watch shows is of no session
-none_in : (x : Item) → claims_heard.is_watched x ≡ true → inputs.session_in x ≡ None
+pub none_in : (x : Item) → claims_heard.is_watched x ≡ true → inputs.session_in x ≡ None
 none_in (item.Watched c kind s p e) is = refl
 none_in x is = absurd (on is)
 
