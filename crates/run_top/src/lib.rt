@@ -15,8 +15,6 @@ mod reading;
 mod refusals;
 mod report;
 mod run;
-#[cfg(test)]
-mod tests;
 
 use crate::reading::report;
 use ax_io::{Sink, Source};
