@@ -71,7 +71,7 @@ next_of h c above s n o e = record {
 
 -- a reply to a command
 reply_claimed : (h : histories.History) (above : List Item) (s n : ℕ) (name : List ℕ) (o : Op) (g : Got) (seq : ℕ)
-    → IsNext h above s n → standing.HasEnds s above 0 → transcripts.StandsIn (item.Called s n (call.Command name o)) above
+    → IsNext h above s n → standing.EndsAbove s above 0 → transcripts.StandsIn (item.Called s n (call.Command name o)) above
     → claims_heard.AreHeardUpto h s g.place above → seq ≡ transcripts.commands_upto s n above → standing.IsTrueReply h s seq g
     → promises.IsClaimed h above (item.Reply s n g.place g.reply)
 reply_claimed h above s n name o g seq next ends called events rank is =
@@ -92,7 +92,7 @@ reply_claimed h above s n name o g seq next ends called events rank is =
 
 -- what a query reads
 read_claimed : (h : histories.History) (above : List Item) (s n : ℕ) (l : Level) (name : List ℕ) (q : Query) (g : Got)
-    → IsNext h above s n → standing.HasEnds s above 0 → transcripts.StandsIn (item.Called s n (call.Query l name q)) above
+    → IsNext h above s n → standing.EndsAbove s above 0 → transcripts.StandsIn (item.Called s n (call.Query l name q)) above
     → claims_heard.AreHeardUpto h s g.place above → AllByRecursion (fresh_reads.IsUpto s g.place) above → standing.IsTrueRead h above s n l name q g
     → promises.IsClaimed h above (item.Read s n l g.place g.reach g.reply)
 read_claimed h above s n l name q g next ends called events reads is =
@@ -145,7 +145,7 @@ lost_claimed h above s n next = record {
 pub end_claimed : (h : histories.History) (above : List Item) (s n : ℕ) (u : sequencers.Unanswered) → IsNext h above s u.number → promises.IsClaimed h above (receipts.outcome_at_end s u)
 end_claimed h above s n u next = by_test (promises.IsClaimed h above) (sequencers.is_query u) (item.Lost s u.number) (item.Doubt s u.number) (λ e. lost_claimed h above s u.number next) (λ e. doubt_claimed h above s u.number next)
 
-pub unsent_claimed : (h : histories.History) (c : clients.Client) (above : List Item) (s : ℕ) → (o : standing.IsOwn h c above s) → o.done ≡ c.calls → standing.HasEnds s above 1 → promises.IsClaimed h above (item.Unsent s (suc c.calls))
+pub unsent_claimed : (h : histories.History) (c : clients.Client) (above : List Item) (s : ℕ) → (o : standing.IsOwn h c above s) → o.done ≡ c.calls → standing.EndsAbove s above 1 → promises.IsClaimed h above (item.Unsent s (suc c.calls))
 unsent_claimed h c above s o all ends =
     let x = item.Unsent s (suc c.calls) in
     let next : IsNext h above s (suc c.calls) = next_of h c above s (suc c.calls) o (ap (λ k. suc k) (sym all)) in
@@ -163,7 +163,7 @@ unsent_claimed h c above s o all ends =
       reached = tt;
     }
 
-pub called_claimed : (h : histories.History) (c : clients.Client) (above : List Item) (s : ℕ) (w : WindowCall) → (o : standing.IsOwn h c above s) → standing.HasEnds s above 0 → standing.HasUnsent s above 0
+pub called_claimed : (h : histories.History) (c : clients.Client) (above : List Item) (s : ℕ) (w : WindowCall) → (o : standing.IsOwn h c above s) → standing.EndsAbove s above 0 → standing.UnsentAbove s above 0
     → promises.IsClaimed h above (item.Called s (suc c.calls) w)
 called_claimed h c above s w o ends unsent = record {
   outcome = λ t. (
@@ -179,7 +179,7 @@ called_claimed h c above s w o ends unsent = record {
   reached = tt;
 }
 
-pub event_claimed : (h : histories.History) (c : clients.Client) (above : List Item) (s p prev : ℕ) (es : List Event) → (o : standing.IsOwn h c above s) → standing.HasEnds s above 0
+pub event_claimed : (h : histories.History) (c : clients.Client) (above : List Item) (s p prev : ℕ) (es : List Event) → (o : standing.IsOwn h c above s) → standing.EndsAbove s above 0
     → promises.IsClaimed h above (item.Event s p prev es)
 event_claimed h c above s p prev es o ends = record {
   outcome = λ t. (tt, tt, tt, tt);
@@ -190,7 +190,7 @@ event_claimed h c above s p prev es o ends = record {
   reached = tt;
 }
 
-pub ended_claimed : (h : histories.History) (c : clients.Client) (above : List Item) (s p : ℕ) (way : How) → (o : standing.IsOwn h c above s) → standing.HasEnds s above 0 → outcome_order.IsEndOf s way (lists.at_place h p)
+pub ended_claimed : (h : histories.History) (c : clients.Client) (above : List Item) (s p : ℕ) (way : How) → (o : standing.IsOwn h c above s) → standing.EndsAbove s above 0 → outcome_order.IsEndOf s way (lists.at_place h p)
     → promises.IsClaimed h above (item.Ended s p way)
 ended_claimed h c above s p way o ends is = record {
   outcome = λ t. (tt, tt, tt, tt);
@@ -223,13 +223,13 @@ opened_claimed h above s me opening is none = record {
 
 -- the answer of the first call without an outcome
 pub answer_claimed : (h : histories.History) (c : clients.Client) (above : List Item) (s read : ℕ) (u : sequencers.Unanswered) (us : List sequencers.Unanswered) (r : clients.Request) (rs : List clients.Request) (g : Got)
-    → standing.IsOwn h (client_at c (u ∷ us) (r ∷ rs) read) above s → standing.HasEnds s above 0
+    → standing.IsOwn h (client_at c (u ∷ us) (r ∷ rs) read) above s → standing.EndsAbove s above 0
     → u.got ≡ Some g → g.events ≤ c.sequencer.heard → (sequencers.is_query u ≡ true → read ≤ g.place)
     → promises.IsClaimed h above (receipts.answer_item s g r r.call)
 answer_claimed h c above s read u us r rs g o ends got heard place =
     let d = client_at c (u ∷ us) (r ∷ rs) read in
-    let a : (r.number ≡ suc o.done) × standing.IsAsked h above s u r × standing.AreAsked h above s (suc o.done) us rs = o.asked in
-    let i : standing.IsAsked h above s u r = a.1 in
+    let a : (r.number ≡ suc o.done) × standing.IsOpenCall h above s u r × standing.AreOpenCalls h above s (suc o.done) us rs = o.asked in
+    let i : standing.IsOpenCall h above s u r = a.1 in
     by_call r.call i.called i.asked_so (subst (standing.IsTrueGot h above s r r.call) got i.got) (next_of h d above s r.number o a.0)
     (λ last. heard_upto h d above s g.place o (subst (λ k. k ≤ c.sequencer.heard) last heard))
     (λ q. reads_since s read g.place above (place q) o.reads)

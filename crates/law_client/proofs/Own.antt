@@ -61,14 +61,14 @@ asked_so_more above x s k u r (call.Command name o) same l a = (a.0, a.1, a.2 �
 asked_so_more above x s k u r (call.Query lev name q) same l a = (a.0, a.1, a.2 ∙ sym (same.below r.number l))
 
 pub asked_more : (h : histories.History) (above : List Item) (x : Item) (s k done : ℕ) (us : List sequencers.Unanswered) (rs : List clients.Request) → SameRanks s k x above → done + length us ≤ k
-    → standing.AreAsked h above s done us rs → standing.AreAsked h (x ∷ above) s done us rs
+    → standing.AreOpenCalls h above s done us rs → standing.AreOpenCalls h (x ∷ above) s done us rs
 asked_more h above x s k done [] [] same l a = tt
 asked_more h above x s k done [] (r ∷ rs) same l a = absurd a
 asked_more h above x s k done (u ∷ us) [] same l a = absurd a
 asked_more h above x s k done (u ∷ us) (r ∷ rs) same l a =
     let m : r.number ≤ k = omega (arith, l, a.0) in
-    let i : standing.IsAsked h above s u r = a.1 in
-    let j : standing.IsAsked h (x ∷ above) s u r = record {
+    let i : standing.IsOpenCall h above s u r = a.1 in
+    let j : standing.IsOpenCall h (x ∷ above) s u r = record {
       number = i.number;
       called = inr i.called;
       asked_so = asked_so_more above x s k u r r.call same m i.asked_so;
@@ -78,15 +78,15 @@ asked_more h above x s k done (u ∷ us) (r ∷ rs) same l a =
 
 -- one more that is asked
 pub asked_push : (h : histories.History) (above : List Item) (s done : ℕ) (us : List sequencers.Unanswered) (rs : List clients.Request) (u : sequencers.Unanswered) (r : clients.Request)
-    → standing.AreAsked h above s done us rs → r.number ≡ suc (done + length us) → standing.IsAsked h above s u r
-    → standing.AreAsked h above s done (us ++ u ∷ []) (rs ++ r ∷ [])
+    → standing.AreOpenCalls h above s done us rs → r.number ≡ suc (done + length us) → standing.IsOpenCall h above s u r
+    → standing.AreOpenCalls h above s done (us ++ u ∷ []) (rs ++ r ∷ [])
 asked_push h above s done [] [] u r a e i = (omega (arith, e), i, tt)
 asked_push h above s done [] (q ∷ rs) u r a e i = absurd a
 asked_push h above s done (v ∷ us) [] u r a e i = absurd a
 asked_push h above s done (v ∷ us) (q ∷ rs) u r a e i = (a.0, a.1, asked_push h above s (suc done) us rs u r a.2 (omega (arith, e)) i)
 
 -- the calls behind the first have other numbers
-pub rest_apart : (h : histories.History) (above : List Item) (s done n : ℕ) (us : List sequencers.Unanswered) (rs : List clients.Request) → n ≤ done → standing.AreAsked h above s done us rs
+pub rest_apart : (h : histories.History) (above : List Item) (s done n : ℕ) (us : List sequencers.Unanswered) (rs : List clients.Request) → n ≤ done → standing.AreOpenCalls h above s done us rs
     → AllByRecursion (λ c. c.0 ≡ n → ⊥) (map standing.asked_call rs)
 rest_apart h above s done n [] [] l a = tt
 rest_apart h above s done n [] (r ∷ rs) l a = absurd a
@@ -109,7 +109,7 @@ own_aside h c above s x n o =
       unanswered = count_no (outcome_order.is_unanswered s) x above n.unanswered ∙ o.unanswered;
       called = ap (λ k. k + count_by (outcome_order.is_unsent s) (x ∷ above)) many ∙ ap (λ k. length (transcripts.calls s above) + k) (count_no (outcome_order.is_unsent s) x above n.unsent) ∙ o.called;
       commands = ap (λ cs. count_by (λ w. transcripts.is_command w.1) cs) calls ∙ o.commands;
-      numbers = subst standing.AreNumbered (sym calls) o.numbers;
+      numbers = subst standing.AreNumberedDown (sym calls) o.numbers;
       done = o.done;
       outcomes = outcomes_same s x above n.outcome ∙ o.outcomes;
       still = o.still;
@@ -162,7 +162,7 @@ pub own_outcome : (h : histories.History) (c : clients.Client) (above : List Ite
 own_outcome h c above s x u us r rs read now n le o =
     let calls : transcripts.calls s (x ∷ above) ≡ transcripts.calls s above = calls_same s x above n.called in
     let many : length (transcripts.calls s (x ∷ above)) ≡ length (transcripts.calls s above) = ap (λ cs. length cs) calls in
-    let a : (r.number ≡ suc o.done) × standing.IsAsked h above s u r × standing.AreAsked h above s (suc o.done) us rs = o.asked in
+    let a : (r.number ≡ suc o.done) × standing.IsOpenCall h above s u r × standing.AreOpenCalls h above s (suc o.done) us rs = o.asked in
     let still : o.done + suc (length us) ≡ c.calls = o.still in
     let first : r.number ≡ suc o.done = a.0 in
     record {
@@ -172,7 +172,7 @@ own_outcome h c above s x u us r rs read now n le o =
       unanswered = count_no (outcome_order.is_unanswered s) x above n.unanswered ∙ o.unanswered;
       called = ap (λ k. k + count_by (outcome_order.is_unsent s) (x ∷ above)) many ∙ ap (λ k. length (transcripts.calls s above) + k) (count_no (outcome_order.is_unsent s) x above n.unsent) ∙ o.called;
       commands = ap (λ cs. count_by (λ w. transcripts.is_command w.1) cs) calls ∙ o.commands;
-      numbers = subst standing.AreNumbered (sym calls) o.numbers;
+      numbers = subst standing.AreNumberedDown (sym calls) o.numbers;
       done = suc o.done;
       outcomes = outcomes_more s r.number x above n.outcome ∙ ap (λ k. suc k) o.outcomes;
       still = omega (arith, still);
@@ -237,7 +237,7 @@ own_unsent h c above s o none none_too =
       outcomes = outcomes_more s (suc c.calls) x above out ∙ ap (λ k. suc k) o.outcomes;
       still = omega (arith, still);
       below = (some_below s (suc c.calls) (suc (suc o.done)) x out (omega (arith, still, zero_left)), below_more s (suc o.done) (suc (suc o.done)) (omega arith) above o.below);
-      asked = subst (λ us. standing.AreAsked h (x ∷ above) s (suc o.done) us c.requests) (sym none_too) (subst (λ rs. standing.AreAsked h (x ∷ above) s (suc o.done) [] rs) (sym none) tt);
+      asked = subst (λ us. standing.AreOpenCalls h (x ∷ above) s (suc o.done) us c.requests) (sym none_too) (subst (λ rs. standing.AreOpenCalls h (x ∷ above) s (suc o.done) [] rs) (sym none) tt);
       waiting = waiting_less s x above refl ∙ ap (λ cs. filter (λ c. not (transcripts.is_outcome s c.0 x)) cs) (o.waiting ∙ ap (λ rs. map standing.asked_call rs) none) ∙ ap (λ rs. map standing.asked_call rs) (sym none);
       told = o.told;
       rest = o.rest;
@@ -247,7 +247,7 @@ own_unsent h c above s o none none_too =
       reads = (tt, o.reads);
     }
 
-pub all_low : (k : ℕ) (cs : List (ℕ × WindowCall)) → length cs ≤ k → standing.AreNumbered cs → AllByRecursion (λ w. w.0 ≤ k) cs
+pub all_low : (k : ℕ) (cs : List (ℕ × WindowCall)) → length cs ≤ k → standing.AreNumberedDown cs → AllByRecursion (λ w. w.0 ≤ k) cs
 all_low k [] l a = tt
 all_low k (c ∷ cs) l a = (omega (arith, l, a.0), all_low k cs (omega (arith, l)) a.1)
 
@@ -284,7 +284,7 @@ new_below c above_calls s w above a e =
     ∙ below_all c (transcripts.calls s above) a ∙ e
 
 -- a new call leaves the ranks of those before it
-called_ranks : (s k : ℕ) (w : WindowCall) (above : List Item) → SameRanks s k (item.Called s (suc k) w) above
+pub called_ranks : (s k : ℕ) (w : WindowCall) (above : List Item) → SameRanks s k (item.Called s (suc k) w) above
 called_ranks s k w above = record {
   upto = λ n l.
       let test : ℕ × WindowCall → Bool = λ v. transcripts.is_command v.1 && nat_le v.0 n in
@@ -309,7 +309,7 @@ own_called h c above s seq l position m w o unsent many so =
     let long : length (transcripts.calls s (x ∷ above)) ≡ suc (length (transcripts.calls s above)) = ap (λ cs. length cs) calls in
     let before : length (transcripts.calls s above) + count_by (outcome_order.is_unsent s) above ≡ c.calls = o.called in
     let still : o.done + length c.sequencer.calls ≡ c.calls = o.still in
-    let i : standing.IsAsked h (x ∷ above) s u r = record { number = refl; called = inl refl; asked_so = so; got = tt } in
+    let i : standing.IsOpenCall h (x ∷ above) s u r = record { number = refl; called = inl refl; asked_so = so; got = tt } in
     record {
       opening = o.opening;
       opened = o.opened;
@@ -318,7 +318,7 @@ own_called h c above s seq l position m w o unsent many so =
       called = ap (λ k. k + count_by (outcome_order.is_unsent s) above) long ∙ omega (arith, before);
       commands = ap (λ cs. count_by (λ v. transcripts.is_command v.1) cs) calls ∙ count_more (λ v. transcripts.is_command v.1) (suc c.calls, w) (transcripts.calls s above)
           ∙ ap (λ k. cond (transcripts.is_command w) 1 0 + k) o.commands ∙ sym many;
-      numbers = subst standing.AreNumbered (sym calls) (omega (arith, before, unsent), o.numbers);
+      numbers = subst standing.AreNumberedDown (sym calls) (omega (arith, before, unsent), o.numbers);
       done = o.done;
       outcomes = o.outcomes;
       still = ap (λ k. o.done + k) (length-append c.sequencer.calls (u ∷ [])) ∙ omega (arith, still);
@@ -348,12 +348,12 @@ own_opened h c above s is b calls commands fresh none =
       unanswered = b.unanswered;
       called = ap (λ cs. length cs + count_by (outcome_order.is_unsent s) above) b.calls ∙ ap (λ k. 0 + k) b.unsent ∙ sym calls;
       commands = ap (λ cs. count_by (λ w. transcripts.is_command w.1) cs) b.calls ∙ sym commands;
-      numbers = subst standing.AreNumbered (sym b.calls) tt;
+      numbers = subst standing.AreNumberedDown (sym b.calls) tt;
       done = 0;
       outcomes = b.outcomes;
       still = ap (λ (q : sequencers.Sequencer). 0 + length q.calls) fresh ∙ sym calls;
       below = (tt, b.below);
-      asked = subst (λ (q : sequencers.Sequencer). standing.AreAsked h (x ∷ above) s 0 q.calls c.requests) (sym fresh) (subst (λ rs. standing.AreAsked h (x ∷ above) s 0 [] rs) (sym none) tt);
+      asked = subst (λ (q : sequencers.Sequencer). standing.AreOpenCalls h (x ∷ above) s 0 q.calls c.requests) (sym fresh) (subst (λ rs. standing.AreOpenCalls h (x ∷ above) s 0 [] rs) (sym none) tt);
       waiting = waiting_same s x above refl refl ∙ b.waiting ∙ ap (λ rs. map standing.asked_call rs) (sym none);
       told = [];
       rest = histories.events h s;

@@ -17,14 +17,14 @@ use Rattle.law_client.specs.Inputs as inputs
 use Rattle.law_client.specs.Standing as standing
 use Rattle.law_client.specs.Promises as promises
 use Rattle.law_client.proofs.Lists.{count_no}
-use Rattle.law_client.proofs.Shown.{IsAside, ShowsNone, aside, ended_aside, heard_same}
+use Rattle.law_client.proofs.Shown.{IsAside, ShowsNone, aside, ended_aside, calls_same, heard_same}
 use Rattle.law_client.proofs.Own.{own_aside}
 use Rattle.law_client.proofs.Steps.{Kept, seat_of, same_opening, opens_keeps, calls_keeps, queries_keeps, keep_keeps, closes_keeps, resends_keeps, switches_keeps, receives_keeps}
 
 pub new_client_stands : promises.NewClientStands
-new_client_stands h me = record { old = tt; own = tt; heard = λ s opening is. (histories.events h s, refl) }
+new_client_stands h me = record { old = tt; own = tt; heard = λ s opening is. (histories.events h s, refl); numbered = λ s opening is. tt }
 
-pub input_keeps : (h : histories.History) (c : clients.Client) (above : List Item) (i : inputs.Input) → standing.Stands h (seat_of c above) → inputs.MayReach h (seat_of c above) i → Kept h c above (inputs.stepped c i)
+pub input_keeps : (h : histories.History) (c : clients.Client) (above : List Item) (i : inputs.Input) → standing.Stands h (seat_of c above) → inputs.MayReach h (seat_of c above) i → Kept h c above (inputs.client_stepped c i)
 input_keeps h c above (inputs.Opens node) k m = opens_keeps h c above node k
 input_keeps h c above (inputs.Calls name o) k m = calls_keeps h c above name o k
 input_keeps h c above (inputs.Queries l name q) k m = queries_keeps h c above l name q k
@@ -67,22 +67,25 @@ others_keep h c above x k o = record {
       let n : ShowsNone s x = aside s x (others_aside h c.me s opening (inputs.session_in x) is o) in
       let old = k.heard s opening is in
       (old.0, old.1 ∙ ap (λ ys. ys ++ old.0) (sym (heard_same s x above n.heard)));
+  numbered = λ s opening is.
+      let n : ShowsNone s x = aside s x (others_aside h c.me s opening (inputs.session_in x) is o) in
+      subst standing.AreNumberedDown (sym (calls_same s x above n.called)) (k.numbered s opening is);
 }
 
 pub each_step_keeps : promises.EachStepKeeps
 each_step_keeps h seat (inputs.Does i) k m =
-    let s : Kept h seat.client seat.above (inputs.stepped seat.client i) = input_keeps h seat.client seat.above i k m in
+    let s : Kept h seat.client seat.above (inputs.client_stepped seat.client i) = input_keeps h seat.client seat.above i k m in
     record { stands = s.stands; claimed = (s.claimed, tt); ends = (s.ends, tt); me = s.me }
 each_step_keeps h seat (inputs.Sees x) k m = record { stands = others_keep h seat.client seat.above x k m; claimed = tt; ends = tt; me = refl }
 
 -- after all of them
-all_stand : (h : histories.History) (seat : inputs.Seat) (xs : List inputs.Happening) → standing.Stands h seat → inputs.AllMayHappen h seat xs → standing.Stands h (inputs.all_happened seat xs)
+all_stand : (h : histories.History) (seat : inputs.Seat) (xs : List inputs.Happening) → standing.Stands h seat → inputs.AllMayHappen h seat xs → standing.Stands h (inputs.seat_after_all seat xs)
 all_stand h seat [] k m = k
-all_stand h seat (x ∷ xs) k m = all_stand h (inputs.happened seat x) xs (each_step_keeps h seat x k m.0).stands m.1
+all_stand h seat (x ∷ xs) k m = all_stand h (inputs.seat_after seat x) xs (each_step_keeps h seat x k m.0).stands m.1
 
-all_same : (h : histories.History) (seat : inputs.Seat) (xs : List inputs.Happening) → standing.Stands h seat → inputs.AllMayHappen h seat xs → (inputs.all_happened seat xs).client.me ≡ seat.client.me
+all_same : (h : histories.History) (seat : inputs.Seat) (xs : List inputs.Happening) → standing.Stands h seat → inputs.AllMayHappen h seat xs → (inputs.seat_after_all seat xs).client.me ≡ seat.client.me
 all_same h seat [] k m = refl
-all_same h seat (x ∷ xs) k m = let s : promises.StepKeeps h seat x = each_step_keeps h seat x k m.0 in all_same h (inputs.happened seat x) xs s.stands m.1 ∙ s.me
+all_same h seat (x ∷ xs) k m = let s : promises.StepKeeps h seat x = each_step_keeps h seat x k m.0 in all_same h (inputs.seat_after seat x) xs s.stands m.1 ∙ s.me
 
 below_since : (P R : List Item → Item → Type 0) → ((above : List Item) (x : Item) → P above x → R above x) → (above xs : List Item) → transcripts.EachBelow P above xs → transcripts.EachBelow R above xs
 below_since P R f above [] a = tt
@@ -93,11 +96,11 @@ all_claimed : (h : histories.History) (R : List Item → Item → Type 0) → ((
 all_claimed h R f seat [] k m = tt
 all_claimed h R f seat (inputs.Does i ∷ xs) k m =
     let s : promises.StepKeeps h seat (inputs.Does i) = each_step_keeps h seat (inputs.Does i) k m.0 in
-    (below_since (promises.IsClaimed h) R f seat.above (inputs.stepped seat.client i).out.items s.claimed.0, all_claimed h R f (inputs.happened seat (inputs.Does i)) xs s.stands m.1)
-all_claimed h R f seat (inputs.Sees x ∷ xs) k m = all_claimed h R f (inputs.happened seat (inputs.Sees x)) xs (each_step_keeps h seat (inputs.Sees x) k m.0).stands m.1
+    (below_since (promises.IsClaimed h) R f seat.above (inputs.client_stepped seat.client i).out.items s.claimed.0, all_claimed h R f (inputs.seat_after seat (inputs.Does i)) xs s.stands m.1)
+all_claimed h R f seat (inputs.Sees x ∷ xs) k m = all_claimed h R f (inputs.seat_after seat (inputs.Sees x)) xs (each_step_keeps h seat (inputs.Sees x) k m.0).stands m.1
 
 always : (R : histories.History → List Item → Item → Type 0) → ((h : histories.History) (above : List Item) (x : Item) → promises.IsClaimed h above x → R h above x)
-    → promises.Always (λ h me xs. promises.OfEach (R h) me xs)
+    → promises.AlwaysAtClient (λ h me xs. promises.OfEach (R h) me xs)
 always R f h me xs m = all_claimed h (R h) (f h) (inputs.new_seat me) xs (new_client_stands h me) m
 
 pub outcomes_follow_calls : promises.OutcomesFollowCalls
@@ -122,8 +125,8 @@ all_ends : (h : histories.History) (seat : inputs.Seat) (xs : List inputs.Happen
 all_ends h seat [] k m = tt
 all_ends h seat (inputs.Does i ∷ xs) k m =
     let s : promises.StepKeeps h seat (inputs.Does i) = each_step_keeps h seat (inputs.Does i) k m.0 in
-    (s.ends.0, all_ends h (inputs.happened seat (inputs.Does i)) xs s.stands m.1)
-all_ends h seat (inputs.Sees x ∷ xs) k m = all_ends h (inputs.happened seat (inputs.Sees x)) xs (each_step_keeps h seat (inputs.Sees x) k m.0).stands m.1
+    (s.ends.0, all_ends h (inputs.seat_after seat (inputs.Does i)) xs s.stands m.1)
+all_ends h seat (inputs.Sees x ∷ xs) k m = all_ends h (inputs.seat_after seat (inputs.Sees x)) xs (each_step_keeps h seat (inputs.Sees x) k m.0).stands m.1
 
 pub each_step_ends_as_told : promises.EachStepEndsAsTold
 each_step_ends_as_told h me xs m = all_ends h (inputs.new_seat me) xs (new_client_stands h me) m
@@ -141,10 +144,10 @@ ends_from h seat [] (w ∷ shown) k m e = absurd (cc)
 ends_from h seat (i ∷ is) [] k m e = absurd (cc)
 ends_from h seat (i ∷ is) (w ∷ shown) k m e =
     let s : promises.StepKeeps h seat (inputs.Does i) = each_step_keeps h seat (inputs.Does i) k m.0 in
-    let items = (inputs.stepped seat.client i).out.items in
+    let items = (inputs.client_stepped seat.client i).out.items in
     let first : w.items ≡ items = cc in
-    let others : map (λ v. v.items) shown ≡ promises.items_of_each (inputs.happened seat (inputs.Does i)) is = cc in
-    (subst (outcome_order.EndsStep seat.above) (sym first) s.ends.0, subst (λ ys. outcome_order.EndsFrom (reverse ys ++ seat.above) shown) (sym first) (ends_from h (inputs.happened seat (inputs.Does i)) is shown s.stands m.1 others))
+    let others : map (λ v. v.items) shown ≡ promises.items_of_each (inputs.seat_after seat (inputs.Does i)) is = cc in
+    (subst (outcome_order.EndsStep seat.above) (sym first) s.ends.0, subst (λ ys. outcome_order.EndsFrom (reverse ys ++ seat.above) shown) (sym first) (ends_from h (inputs.seat_after seat (inputs.Does i)) is shown s.stands m.1 others))
 
 pub sessions_end_as_told : promises.SessionsEndAsTold
 sessions_end_as_told h me is shown m e = ends_from h (inputs.new_seat me) is shown (new_client_stands h me) m e

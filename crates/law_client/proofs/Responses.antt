@@ -47,7 +47,7 @@ response_sent s t x e = absurd e
 
 -- where an answer is given out, it is the outcome of its call
 answer_outcome : (above : List Item) (s read : ℕ) (u : sequencers.Unanswered) (r : clients.Request) (g : Got) (w : WindowCall) → standing.IsAskedSo above s u r w
-    → IsOutcomeOf s r.number (releases.read_after read u g) (receipts.answer_item s g r w)
+    → IsOutcomeOf s r.number (releases.read_after_giving read u g) (receipts.answer_item s g r w)
 answer_outcome above s read u r g (call.Command name o) a =
     record { called = refl; outcome = rw (is_equal s s refl) refl; unsent = refl; unanswered = refl; opened = refl; heard = refl; upto = tt }
 answer_outcome above s read u r g (call.Query l name q) a =
@@ -68,8 +68,8 @@ pub record GaveOut (h : histories.History) (c : clients.Client) (above : List It
   pub requests : List clients.Request
   pub whole : rs ≡ before ++ requests
   pub own : standing.IsOwn h (client_at c kept requests read) (reverse items ++ above) s
-  pub ends : standing.HasEnds s (reverse items ++ above) 0
-  pub unsent : standing.HasUnsent s (reverse items ++ above) 0
+  pub ends : standing.EndsAbove s (reverse items ++ above) 0
+  pub unsent : standing.UnsentAbove s (reverse items ++ above) 0
   pub claimed : transcripts.EachBelow (promises.IsClaimed h) above items
   pub responses : AllByRecursion (IsResponse s) items
   pub later : transcripts.outcome_count s above ≤ transcripts.outcome_count s (reverse items ++ above)
@@ -88,8 +88,8 @@ gave_more h c above s read kept r rs y items number out claimed is g =
       requests = g.requests;
       whole = ap (λ qs. r ∷ qs) g.whole;
       own = subst (λ ys. standing.IsOwn h (client_at c kept g.requests read) ys s) back g.own;
-      ends = subst (λ ys. standing.HasEnds s ys 0) back g.ends;
-      unsent = subst (λ ys. standing.HasUnsent s ys 0) back g.unsent;
+      ends = subst (λ ys. standing.EndsAbove s ys 0) back g.ends;
+      unsent = subst (λ ys. standing.UnsentAbove s ys 0) back g.unsent;
       claimed = (claimed, g.claimed);
       responses = (is, g.responses);
       later = omega (arith, later, one);
@@ -102,8 +102,8 @@ not_earlier false read place f = omega arith
 
 pub gives_out : (h : histories.History) (c : clients.Client) (s read : ℕ) (given kept : List sequencers.Unanswered) (rs : List clients.Request) (xs : List (ℕ × Got)) (above : List Item)
     → clients.own_session c.state ≡ s → AllByRecursion (λ r. receipts.request c.requests r.number ≡ Some r) rs
-    → standing.IsOwn h (client_at c (given ++ kept) rs read) above s → standing.HasEnds s above 0 → standing.HasUnsent s above 0
-    → releases.AreGiven c.sequencer.heard read given xs
+    → standing.IsOwn h (client_at c (given ++ kept) rs read) above s → standing.EndsAbove s above 0 → standing.UnsentAbove s above 0
+    → releases.AreGivenOut c.sequencer.heard read given xs
     → GaveOut h c above s (releases.last_read read given xs) kept rs (receipts.items_of c xs)
 gives_out h c s read [] kept rs [] above mine found o ends unsent a =
     record { before = []; requests = rs; whole = refl; own = o; ends = ends; unsent = unsent; claimed = tt; responses = tt; later = omega arith; low = tt }
@@ -113,9 +113,9 @@ gives_out h c s read (u ∷ given) kept [] (x ∷ xs) above mine found o ends un
 gives_out h c s read (u ∷ given) kept (r ∷ rs) (x ∷ xs) above mine found o ends unsent a =
     let g = x.1 in
     let y = receipts.answer_item s g r r.call in
-    let now = releases.read_after read u g in
-    let asked : (r.number ≡ suc o.done) × standing.IsAsked h above s u r × standing.AreAsked h above s (suc o.done) (given ++ kept) rs = o.asked in
-    let i : standing.IsAsked h above s u r = asked.1 in
+    let now = releases.read_after_giving read u g in
+    let asked : (r.number ≡ suc o.done) × standing.IsOpenCall h above s u r × standing.AreOpenCalls h above s (suc o.done) (given ++ kept) rs = o.asked in
+    let i : standing.IsOpenCall h above s u r = asked.1 in
     let is : releases.IsGiven c.sequencer.heard read u g = a.1 in
     let out : IsOutcomeOf s r.number now y = answer_outcome above s read u r g r.call i.asked_so in
     let le : read ≤ now = not_earlier (sequencers.is_query u) read g.place is.place in
@@ -136,7 +136,7 @@ find_past : (n : ℕ) (r : clients.Request) (before rs : List clients.Request) �
 find_past n r [] rs a e = ap (λ b. cond b (Some r) (receipts.request rs n)) (is_equal r.number n e)
 find_past n r (b ∷ before) rs a e = ap (λ t. cond t (Some b) (receipts.request (before ++ r ∷ rs) n)) (is_unequal b.number n (λ f. omega (arith, f, a.0))) ∙ find_past n r before rs a.1 e
 
-found_all : (h : histories.History) (above : List Item) (s done : ℕ) (us : List sequencers.Unanswered) (before rs : List clients.Request) → standing.AreAsked h above s done us rs
+found_all : (h : histories.History) (above : List Item) (s done : ℕ) (us : List sequencers.Unanswered) (before rs : List clients.Request) → standing.AreOpenCalls h above s done us rs
     → AllByRecursion (λ b. b.number ≤ done) before → AllByRecursion (λ r. receipts.request (before ++ rs) r.number ≡ Some r) rs
 found_all h above s done [] before [] a l = tt
 found_all h above s done [] before (r ∷ rs) a l = absurd a
@@ -149,13 +149,13 @@ found_all h above s done (u ∷ us) before (r ∷ rs) a l =
     (first, subst (λ all. AllByRecursion (λ q. receipts.request all q.number ≡ Some q) rs) (append_assoc before (r ∷ []) rs) more)
 
 -- the requests that are left are those of the calls that are left
-lacking : (h : histories.History) (above : List Item) (s done : ℕ) (us : List sequencers.Unanswered) (rs : List clients.Request) → standing.AreAsked h above s done us rs
+lacking : (h : histories.History) (above : List Item) (s done : ℕ) (us : List sequencers.Unanswered) (rs : List clients.Request) → standing.AreOpenCalls h above s done us rs
     → AllByRecursion (λ r. receipts.lacks_outcome us r.number ≡ true) rs
 lacking h above s done [] [] a = tt
 lacking h above s done [] (r ∷ rs) a = absurd a
 lacking h above s done (u ∷ us) [] a = absurd a
 lacking h above s done (u ∷ us) (r ∷ rs) a =
-    let i : standing.IsAsked h above s u r = a.1 in (
+    let i : standing.IsOpenCall h above s u r = a.1 in (
       ap (λ b. b || receipts.lacks_outcome us r.number) (is_equal u.number r.number i.number),
       all_since (λ q. receipts.lacks_outcome us q.number ≡ true) (λ q. receipts.lacks_outcome (u ∷ us) q.number ≡ true) (λ q e. ap (λ b. nat_eq u.number q.number || b) e ∙ or_true (nat_eq u.number q.number)) rs
           (lacking h above s (suc done) us rs a.2),
@@ -165,17 +165,17 @@ lacking h above s done (u ∷ us) (r ∷ rs) a =
     or_true true = refl
     or_true false = refl
 
-none_lacking : (h : histories.History) (above : List Item) (s done n : ℕ) (us : List sequencers.Unanswered) (rs : List clients.Request) → standing.AreAsked h above s done us rs → n ≤ done
+none_lacking : (h : histories.History) (above : List Item) (s done n : ℕ) (us : List sequencers.Unanswered) (rs : List clients.Request) → standing.AreOpenCalls h above s done us rs → n ≤ done
     → receipts.lacks_outcome us n ≡ false
 none_lacking h above s done n [] rs a l = refl
 none_lacking h above s done n (u ∷ us) [] a l = absurd a
 none_lacking h above s done n (u ∷ us) (r ∷ rs) a l =
-    let i : standing.IsAsked h above s u r = a.1 in
+    let i : standing.IsOpenCall h above s u r = a.1 in
     let e : r.number ≡ suc done = a.0 in
     let f : u.number ≡ r.number = i.number in
     ap (λ b. b || receipts.lacks_outcome us n) (is_unequal u.number n (λ g. omega (arith, e, f, g, l))) ∙ none_lacking h above s (suc done) n us rs a.2 (omega (arith, l))
 
-left_requests : (h : histories.History) (above : List Item) (s done : ℕ) (us : List sequencers.Unanswered) (before rs : List clients.Request) → standing.AreAsked h above s done us rs
+left_requests : (h : histories.History) (above : List Item) (s done : ℕ) (us : List sequencers.Unanswered) (before rs : List clients.Request) → standing.AreOpenCalls h above s done us rs
     → AllByRecursion (λ b. b.number ≤ done) before → receipts.requests_left (before ++ rs) us ≡ rs
 left_requests h above s done us before rs a low =
     let test : clients.Request → Bool = λ r. receipts.lacks_outcome us r.number in
@@ -184,11 +184,11 @@ left_requests h above s done us before rs a low =
     ∙ filter_all test rs (lacking h above s done us rs a)
 
 -- a call that lost its answer is asked as before
-forgot : (h : histories.History) (above : List Item) (s done : ℕ) (u : sequencers.Unanswered) (us : List sequencers.Unanswered) (rs : List clients.Request) → standing.AreAsked h above s done (u ∷ us) rs
-    → standing.AreAsked h above s done (record u { got = None } ∷ us) rs
+forgot : (h : histories.History) (above : List Item) (s done : ℕ) (u : sequencers.Unanswered) (us : List sequencers.Unanswered) (rs : List clients.Request) → standing.AreOpenCalls h above s done (u ∷ us) rs
+    → standing.AreOpenCalls h above s done (record u { got = None } ∷ us) rs
 forgot h above s done u us [] a = a
 forgot h above s done u us (r ∷ rs) a =
-    let i : standing.IsAsked h above s u r = a.1 in
+    let i : standing.IsOpenCall h above s u r = a.1 in
     (a.0, record { number = i.number; called = i.called; asked_so = so r.call i.asked_so; got = tt }, a.2)
   where
     so : (w : WindowCall) → standing.IsAskedSo above s u r w → standing.IsAskedSo above s (record u { got = None }) r w
@@ -196,19 +196,19 @@ forgot h above s done u us (r ∷ rs) a =
     so (call.Query l name q) b = b
 
 left_asked : (h : histories.History) (above : List Item) (s done heard read : ℕ) (kept : List sequencers.Unanswered) (again : Option ℕ) (calls : List sequencers.Unanswered) (rs : List clients.Request)
-    → releases.IsLeft heard read kept again calls → standing.AreAsked h above s done kept rs → standing.AreAsked h above s done calls rs
-left_asked h above s done heard read kept None calls rs l a = subst (λ us. standing.AreAsked h above s done us rs) (sym l.0) a
+    → releases.IsKeptBack heard read kept again calls → standing.AreOpenCalls h above s done kept rs → standing.AreOpenCalls h above s done calls rs
+left_asked h above s done heard read kept None calls rs l a = subst (λ us. standing.AreOpenCalls h above s done us rs) (sym l.0) a
 left_asked h above s done heard read [] (Some n) calls rs l a = absurd l
-left_asked h above s done heard read (u ∷ us) (Some n) calls rs l a = subst (λ vs. standing.AreAsked h above s done vs rs) (sym l.2) (forgot h above s done u us rs a)
+left_asked h above s done heard read (u ∷ us) (Some n) calls rs l a = subst (λ vs. standing.AreOpenCalls h above s done vs rs) (sym l.2) (forgot h above s done u us rs a)
 
-left_many : (heard read : ℕ) (kept : List sequencers.Unanswered) (again : Option ℕ) (calls : List sequencers.Unanswered) → releases.IsLeft heard read kept again calls → length calls ≡ length kept
+left_many : (heard read : ℕ) (kept : List sequencers.Unanswered) (again : Option ℕ) (calls : List sequencers.Unanswered) → releases.IsKeptBack heard read kept again calls → length calls ≡ length kept
 left_many heard read kept None calls l = ap (λ us. length us) l.0
 left_many heard read [] (Some n) calls l = absurd l
 left_many heard read (u ∷ us) (Some n) calls l = ap (λ vs. length vs) l.2
 
 -- how a session stands speaks of some fields of a client alone
 pub own_with : (h : histories.History) (c : clients.Client) (above : List Item) (s read seen : ℕ) (us vs : List sequencers.Unanswered) (rs : List clients.Request)
-    → length vs ≡ length us → ((done : ℕ) → standing.AreAsked h above s done us rs → standing.AreAsked h above s done vs rs)
+    → length vs ≡ length us → ((done : ℕ) → standing.AreOpenCalls h above s done us rs → standing.AreOpenCalls h above s done vs rs)
     → standing.IsOwn h (client_at c us rs read) above s
     → standing.IsOwn h (record c { sequencer = record c.sequencer { calls = vs; seen = seen; read = read }; requests = rs }) above s
 own_with h c above s read seen us vs rs many asked o = record {
@@ -236,8 +236,8 @@ own_with h c above s read seen us vs rs many asked o = record {
 -- what a release gives
 pub record Released (h : histories.History) (above : List Item) (s : ℕ) (next : clients.Client) (items : List Item) : Type 0 where
   pub own : standing.IsOwn h next (reverse items ++ above) s
-  pub ends : standing.HasEnds s (reverse items ++ above) 0
-  pub unsent : standing.HasUnsent s (reverse items ++ above) 0
+  pub ends : standing.EndsAbove s (reverse items ++ above) 0
+  pub unsent : standing.UnsentAbove s (reverse items ++ above) 0
   pub claimed : transcripts.EachBelow (promises.IsClaimed h) above items
   pub responses : AllByRecursion (IsResponse s) items
 
@@ -245,7 +245,7 @@ pub record Released (h : histories.History) (above : List Item) (s : ℕ) (next 
 abbrev pub after_release : clients.Client → clients.Client
 after_release c = record c { sequencer = sequencers.released c.sequencer; requests = receipts.requests_left c.requests (sequencers.release_of c.sequencer).calls }
 
-pub release_keeps : (h : histories.History) (c : clients.Client) (above : List Item) (s : ℕ) → clients.own_session c.state ≡ s → standing.IsOwn h c above s → standing.HasEnds s above 0 → standing.HasUnsent s above 0
+pub release_keeps : (h : histories.History) (c : clients.Client) (above : List Item) (s : ℕ) → clients.own_session c.state ≡ s → standing.IsOwn h c above s → standing.EndsAbove s above 0 → standing.UnsentAbove s above 0
     → Released h above s (after_release c) (receipts.items_of c (sequencers.release_of c.sequencer).items)
 release_keeps h c above s mine o ends unsent =
     let q = c.sequencer in
@@ -272,17 +272,17 @@ release_keeps h c above s mine o ends unsent =
     }
 
 -- calls by their numbers
-stands_called : (s n : ℕ) (w : WindowCall) (xs : List Item) → transcripts.StandsIn (item.Called s n w) xs → IsAmong (n, w) (transcripts.calls s xs)
+pub stands_called : (s n : ℕ) (w : WindowCall) (xs : List Item) → transcripts.StandsIn (item.Called s n w) xs → IsAmong (n, w) (transcripts.calls s xs)
 stands_called s n w [] a = absurd a
 stands_called s n w (x ∷ xs) (inl e) = subst (λ y. IsAmong (n, w) (transcripts.calls s (y ∷ xs))) (sym e) (subst (IsAmong (n, w)) (sym (called_first s n w xs)) (inl refl))
 stands_called s n w (x ∷ xs) (inr a) = among_behind (n, w) (transcripts.called_by s x) (transcripts.calls s xs) (stands_called s n w xs a)
 
-among_low : (n : ℕ) (w : WindowCall) (cs : List (ℕ × WindowCall)) → standing.AreNumbered cs → IsAmong (n, w) cs → n ≤ length cs
+pub among_low : (n : ℕ) (w : WindowCall) (cs : List (ℕ × WindowCall)) → standing.AreNumberedDown cs → IsAmong (n, w) cs → n ≤ length cs
 among_low n w [] a b = absurd b
 among_low n w (c ∷ cs) a (inl e) = let f : c.0 ≡ n = ap (λ x. x.0) e in omega (arith, f, a.0)
 among_low n w (c ∷ cs) a (inr b) = let l : n ≤ length cs = among_low n w cs a.1 b in omega (arith, l)
 
-one_call : (n : ℕ) (v w : WindowCall) (cs : List (ℕ × WindowCall)) → standing.AreNumbered cs → IsAmong (n, v) cs → IsAmong (n, w) cs → v ≡ w
+one_call : (n : ℕ) (v w : WindowCall) (cs : List (ℕ × WindowCall)) → standing.AreNumberedDown cs → IsAmong (n, v) cs → IsAmong (n, w) cs → v ≡ w
 one_call n v w [] a b d = absurd b
 one_call n v w (c ∷ cs) a (inl e) (inl f) = ap (λ x. x.1) (sym e ∙ f)
 one_call n v w (c ∷ cs) a (inl e) (inr d) = let f : c.0 ≡ n = ap (λ x. x.0) e in let l : n ≤ length cs = among_low n w cs a.1 d in absurd (omega (arith, f, l, a.0))
@@ -300,10 +300,10 @@ first_answer : (h : histories.History) (above : List Item) (s : ℕ) (r : client
 first_answer h above s r w None g a b = b
 first_answer h above s r w (Some old) g a b = a
 
-gets_answer : (h : histories.History) (above : List Item) (s n : ℕ) (g : Got) (u : sequencers.Unanswered) (r : clients.Request) → standing.IsAsked h above s u r
-    → (u.number ≡ n → standing.IsTrueGot h above s r r.call (Some g)) → standing.IsAsked h above s (sequencers.get_answer n g u) r
+gets_answer : (h : histories.History) (above : List Item) (s n : ℕ) (g : Got) (u : sequencers.Unanswered) (r : clients.Request) → standing.IsOpenCall h above s u r
+    → (u.number ≡ n → standing.IsTrueGot h above s r r.call (Some g)) → standing.IsOpenCall h above s (sequencers.get_answer n g u) r
 gets_answer h above s n g u r i f =
-    by_test (λ v. standing.IsAsked h above s v r) (nat_eq u.number n) (record u { got = Some (sequencers.first_got u.got g) }) u
+    by_test (λ v. standing.IsOpenCall h above s v r) (nat_eq u.number n) (record u { got = Some (sequencers.first_got u.got g) }) u
     (λ e. record { number = i.number; called = i.called; asked_so = so r.call i.asked_so; got = first_answer h above s r r.call u.got g i.got (f (equal u.number n e)) })
     (λ e. i)
   where
@@ -311,16 +311,16 @@ gets_answer h above s n g u r i f =
     so (call.Command name o) b = b
     so (call.Query l name q) b = b
 
-answered : (h : histories.History) (above : List Item) (s n done : ℕ) (g : Got) (us : List sequencers.Unanswered) (rs : List clients.Request) → standing.AreAsked h above s done us rs
-    → ((u : sequencers.Unanswered) (r : clients.Request) → standing.IsAsked h above s u r → u.number ≡ n → standing.IsTrueGot h above s r r.call (Some g))
-    → standing.AreAsked h above s done (map (sequencers.get_answer n g) us) rs
+answered : (h : histories.History) (above : List Item) (s n done : ℕ) (g : Got) (us : List sequencers.Unanswered) (rs : List clients.Request) → standing.AreOpenCalls h above s done us rs
+    → ((u : sequencers.Unanswered) (r : clients.Request) → standing.IsOpenCall h above s u r → u.number ≡ n → standing.IsTrueGot h above s r r.call (Some g))
+    → standing.AreOpenCalls h above s done (map (sequencers.get_answer n g) us) rs
 answered h above s n done g [] [] a f = tt
 answered h above s n done g [] (r ∷ rs) a f = absurd a
 answered h above s n done g (u ∷ us) [] a f = absurd a
 answered h above s n done g (u ∷ us) (r ∷ rs) a f = (a.0, gets_answer h above s n g u r a.1 (f u r a.1), answered h above s n (suc done) g us rs a.2 f)
 
 pub own_answered : (h : histories.History) (c : clients.Client) (above : List Item) (s n : ℕ) (g : Got) → standing.IsOwn h c above s
-    → ((u : sequencers.Unanswered) (r : clients.Request) → standing.IsAsked h above s u r → u.number ≡ n → standing.IsTrueGot h above s r r.call (Some g))
+    → ((u : sequencers.Unanswered) (r : clients.Request) → standing.IsOpenCall h above s u r → u.number ≡ n → standing.IsTrueGot h above s r r.call (Some g))
     → standing.IsOwn h (record c { sequencer = sequencers.with_answer c.sequencer n g }) above s
 own_answered h c above s n g o f =
     own_with h c above s c.sequencer.read c.sequencer.seen c.sequencer.calls (map (sequencers.get_answer n g) c.sequencer.calls) c.requests (length-map c.sequencer.calls (sequencers.get_answer n g))
@@ -329,10 +329,10 @@ own_answered h c above s n g o f =
 -- the call that is found by a test, with its request
 pub record Found (h : histories.History) (above : List Item) (s : ℕ) (test : sequencers.Unanswered → Bool) (u : sequencers.Unanswered) : Type 0 where
   pub request : clients.Request
-  pub asked : standing.IsAsked h above s u request
+  pub asked : standing.IsOpenCall h above s u request
   pub passes : test u ≡ true
 
-pub found_pair : (h : histories.History) (above : List Item) (s done : ℕ) (test : sequencers.Unanswered → Bool) (us : List sequencers.Unanswered) (rs : List clients.Request) (u : sequencers.Unanswered) → standing.AreAsked h above s done us rs
+pub found_pair : (h : histories.History) (above : List Item) (s done : ℕ) (test : sequencers.Unanswered → Bool) (us : List sequencers.Unanswered) (rs : List clients.Request) (u : sequencers.Unanswered) → standing.AreOpenCalls h above s done us rs
     → find test us ≡ Some u → Found h above s test u
 found_pair h above s done test [] rs u a e = absurd (cc)
 found_pair h above s done test (v ∷ us) [] u a e = absurd a
@@ -340,6 +340,6 @@ found_pair h above s done test (v ∷ us) (r ∷ rs) u a e =
     ⊎_elim
     (λ f.
     let g : v ≡ u = some_same v u (sym (ap (λ b. cond b (Some v) (find test us)) f) ∙ e) in
-    record { request = r; asked = subst (λ x. standing.IsAsked h above s x r) g a.1; passes = ap (λ x. test x) (sym g) ∙ f })
+    record { request = r; asked = subst (λ x. standing.IsOpenCall h above s x r) g a.1; passes = ap (λ x. test x) (sym g) ∙ f })
     (λ f. found_pair h above s (suc done) test us rs u a.2 (sym (ap (λ b. cond b (Some v) (find test us)) f) ∙ e))
     (on_or_off (test v))

@@ -76,6 +76,7 @@ silent h c d above sends k me l own = record {
     old = subst (λ m. AllByRecursion (λ x. standing.IsOld m (standing.next_opening d) h (inputs.session_in x)) above) (sym me) (olds_since c.me (standing.next_opening c) (standing.next_opening d) h above l k.old);
     own = own;
     heard = λ s opening is. k.heard s opening (subst (λ m. payloads.IsOpeningOf m opening (lists.at_place h s)) me is);
+    numbered = λ s opening is. k.numbered s opening (subst (λ m. payloads.IsOpeningOf m opening (lists.at_place h s)) me is);
   };
   claimed = tt;
   ends = tt;
@@ -106,6 +107,19 @@ mine_owned : (h : histories.History) (me s : ℕ) (below : List Item) (xs : List
 mine_owned h me s below [] o a = tt
 mine_owned h me s below (x ∷ xs) o a = (subst (standing.IsOfOwn me h below) (sym a.0) o, mine_owned h me s below xs o a.1)
 
+-- calls stay numbered by what is claimed of each
+one_numbered : (s : ℕ) (x : Item) (above : List Item) → outcome_order.IsNumbered s above x → standing.AreNumberedDown (transcripts.calls s above) → standing.AreNumberedDown (transcripts.calls s (x ∷ above))
+one_numbered s (item.Called t n w) above is a =
+    ⊎_elim (λ e. subst (λ b. standing.AreNumberedDown ((if b then (n, w) ∷ [] else []) ++ transcripts.calls s above)) (sym e) (omega (arith, (is (equal s t e)).0), a))
+    (λ e. subst (λ b. standing.AreNumberedDown ((if b then (n, w) ∷ [] else []) ++ transcripts.calls s above)) (sym e) a) (on_or_off (nat_eq s t))
+one_numbered s x above is a = a
+
+all_numbered : (h : histories.History) (s : ℕ) (above items : List Item) → transcripts.EachBelow (promises.IsClaimed h) above items → standing.AreNumberedDown (transcripts.calls s above)
+    → standing.AreNumberedDown (transcripts.calls s (reverse items ++ above))
+all_numbered h s above [] c a = a
+all_numbered h s above (x ∷ items) c a =
+    subst (λ ys. standing.AreNumberedDown (transcripts.calls s ys)) (sym (reverse_onto x items above)) (all_numbered h s (x ∷ above) items c.1 (one_numbered s x above (c.0.outcome s).0 a))
+
 pub shows : (h : histories.History) (c d : clients.Client) (above items : List Item) (s : ℕ) (sends : List (ℕ × Payload)) → standing.Stands h (seat_of c above) → d.me ≡ c.me
     → standing.next_opening c ≤ standing.next_opening d → d.switch.opening < standing.next_opening d
     → standing.IsOwn h d (reverse items ++ above) s → AreMine s items → standing.OwnStands h d (reverse items ++ above) d.state
@@ -124,6 +138,7 @@ shows h c d above items s sends k me l m own mine stands claimed ends = record {
         let old = k.heard u opening (subst (λ i. payloads.IsOpeningOf i opening (lists.at_place h u)) me is) in
         (old.0, old.1 ∙ ap (λ ys. ys ++ old.0) (sym (heard_of_other s u items above (unequal u s e) mine))))
         (on_or_off (nat_eq u s));
+    numbered = λ u opening is. all_numbered h u above items claimed (k.numbered u opening (subst (λ i. payloads.IsOpeningOf i opening (lists.at_place h u)) me is));
   };
   claimed = claimed;
   ends = ends;
@@ -132,7 +147,7 @@ shows h c d above items s sends k me l m own mine stands claimed ends = record {
 }
 
 -- states
-live_state : (t : ClientState) → clients.is_live_client t ≡ true → t ≡ state.Live (clients.own_session t)
+pub live_state : (t : ClientState) → clients.is_live_client t ≡ true → t ≡ state.Live (clients.own_session t)
 live_state (state.Live s) e = refl
 live_state state.NoneYet e = absurd (on e)
 live_state state.Opening e = absurd (on e)
@@ -149,10 +164,10 @@ ended_state (state.Live s) e = absurd (on e)
 -- of a session that is open or closing
 pub record Joined (h : histories.History) (c : clients.Client) (above : List Item) (s : ℕ) : Type 0 where
   pub own : standing.IsOwn h c above s
-  pub ends : standing.HasEnds s above 0
-  pub unsent : standing.HasUnsent s above 0
+  pub ends : standing.EndsAbove s above 0
+  pub unsent : standing.UnsentAbove s above 0
 
-joined : (h : histories.History) (c : clients.Client) (above : List Item) (t : ClientState) → clients.is_joined t ≡ true → standing.OwnStands h c above t → Joined h c above (clients.own_session t)
+pub joined : (h : histories.History) (c : clients.Client) (above : List Item) (t : ClientState) → clients.is_joined t ≡ true → standing.OwnStands h c above t → Joined h c above (clients.own_session t)
 joined h c above (state.Live s) e k = record { own = k.0; ends = k.1; unsent = k.2 }
 joined h c above (state.Closing s) e k = record { own = k.0; ends = k.1; unsent = k.2 }
 joined h c above state.NoneYet e k = absurd (on e)
@@ -181,12 +196,12 @@ joined_next c e = next_at c.state e
 next_low : (c : clients.Client) → standing.next_opening c ≤ suc c.switch.opening
 next_low c = by_test (λ n. n ≤ suc c.switch.opening) (clients.is_opening c.state) c.switch.opening (suc c.switch.opening) (λ e. omega arith) (λ e. omega arith)
 
-no_calls : (h : histories.History) (above : List Item) (s done : ℕ) (us : List sequencers.Unanswered) (rs : List clients.Request) → standing.AreAsked h above s done us rs → rs ≡ [] → us ≡ []
+no_calls : (h : histories.History) (above : List Item) (s done : ℕ) (us : List sequencers.Unanswered) (rs : List clients.Request) → standing.AreOpenCalls h above s done us rs → rs ≡ [] → us ≡ []
 no_calls h above s done [] rs a e = refl
 no_calls h above s done (u ∷ us) [] a e = absurd a
 no_calls h above s done (u ∷ us) (r ∷ rs) a e = absurd (cc)
 
-no_requests : (h : histories.History) (above : List Item) (s done : ℕ) (us : List sequencers.Unanswered) (rs : List clients.Request) → standing.AreAsked h above s done us rs → length us ≡ 0 → rs ≡ []
+no_requests : (h : histories.History) (above : List Item) (s done : ℕ) (us : List sequencers.Unanswered) (rs : List clients.Request) → standing.AreOpenCalls h above s done us rs → length us ≡ 0 → rs ≡ []
 no_requests h above s done us [] a e = refl
 no_requests h above s done [] (r ∷ rs) a e = absurd a
 no_requests h above s done (u ∷ us) (r ∷ rs) a e = absurd (omega (arith, e))
@@ -225,17 +240,17 @@ placed h c above server state.NoneYet k = tt
 placed h c above server state.Opening k = tt
 
 -- by whether a step is refused
-unless_if : (P : clients.ClientStep → Type 0) (c : clients.Client) (next : clients.ClientStep) (b : Bool) (r : SkipReason) → P (clients.ignores c) → (b ≡ false → P next) → P (inputs.unless (clients.refused_if b r) c next)
+pub unless_if : (P : clients.ClientStep → Type 0) (c : clients.Client) (next : clients.ClientStep) (b : Bool) (r : SkipReason) → P (clients.ignores c) → (b ≡ false → P next) → P (inputs.unless (clients.refused_if b r) c next)
 unless_if P c next true r p q = p
 unless_if P c next false r p q = q refl
 
-unless_two : (P : clients.ClientStep → Type 0) (c : clients.Client) (next : clients.ClientStep) (live full : Bool) (r q : SkipReason) → P (clients.ignores c) → (live ≡ true → full ≡ false → P next)
+pub unless_two : (P : clients.ClientStep → Type 0) (c : clients.Client) (next : clients.ClientStep) (live full : Bool) (r q : SkipReason) → P (clients.ignores c) → (live ≡ true → full ≡ false → P next)
     → P (inputs.unless (if not live then Some r else clients.refused_if full q) c next)
 unless_two P c next true true r q p f = p
 unless_two P c next true false r q p f = f refl refl
 unless_two P c next false full r q p f = p
 
-pub opens_keeps : (h : histories.History) (c : clients.Client) (above : List Item) (node : ℕ) → standing.Stands h (seat_of c above) → Kept h c above (inputs.stepped c (inputs.Opens node))
+pub opens_keeps : (h : histories.History) (c : clients.Client) (above : List Item) (node : ℕ) → standing.Stands h (seat_of c above) → Kept h c above (inputs.client_stepped c (inputs.Opens node))
 opens_keeps h c above node k =
     let d : clients.Client = record c { switch = sequencers.with_opening (sequencers.moved_to c.switch node); state = state.Opening } in
     unless_if (Kept h c above) c (clients.opens c node) (clients.is_busy c.state) reason.SessionOpen (ignored h c above k)
@@ -258,7 +273,7 @@ unsent_keeps h c above k ended =
 -- a call that is made
 called_keeps : (h : histories.History) (c : clients.Client) (above : List Item) (seq : Option ℕ) (l : Option Level) (position m : ℕ) (w : WindowCall) (sends : List (ℕ × Payload)) → standing.Stands h (seat_of c above)
     → clients.is_live_client c.state ≡ true → m ≡ cond (transcripts.is_command w) 1 0 + c.commands
-    → ((s : ℕ) → standing.IsOwn h c above s → standing.HasUnsent s above 0
+    → ((s : ℕ) → standing.IsOwn h c above s → standing.UnsentAbove s above 0
     → standing.IsAskedSo (item.Called s (suc c.calls) w ∷ above) s (record { number = suc c.calls; seq = seq; level = l; got = None }) (record { number = suc c.calls; seq = position; call = w }) w)
     → Kept h c above (clients.client_step (record (clients.with_request c seq l position w) { commands = m }) (clients.called_item c (suc c.calls) w ∷ []) sends)
 called_keeps h c above seq l position m w sends k live many so =
@@ -273,10 +288,10 @@ called_keeps h c above seq l position m w sends k live many so =
     (subst (standing.OwnStands h d (x ∷ above)) (sym is) (now, own.1, own.2))
     (called_claimed h c above s w own.0 own.1 own.2, tt) tt
 
-low_numbers : (h : histories.History) (c : clients.Client) (above : List Item) (s : ℕ) → (o : standing.IsOwn h c above s) → standing.HasUnsent s above 0 → AllByRecursion (λ w. w.0 ≤ c.calls) (transcripts.calls s above)
+low_numbers : (h : histories.History) (c : clients.Client) (above : List Item) (s : ℕ) → (o : standing.IsOwn h c above s) → standing.UnsentAbove s above 0 → AllByRecursion (λ w. w.0 ≤ c.calls) (transcripts.calls s above)
 low_numbers h c above s o unsent = let called : length (transcripts.calls s above) + count_by (outcome_order.is_unsent s) above ≡ c.calls = o.called in all_low c.calls (transcripts.calls s above) (omega (arith, called, unsent)) o.numbers
 
-pub calls_keeps : (h : histories.History) (c : clients.Client) (above : List Item) (name : List ℕ) (o : Op) → standing.Stands h (seat_of c above) → Kept h c above (inputs.stepped c (inputs.Calls name o))
+pub calls_keeps : (h : histories.History) (c : clients.Client) (above : List Item) (name : List ℕ) (o : Op) → standing.Stands h (seat_of c above) → Kept h c above (inputs.client_stepped c (inputs.Calls name o))
 calls_keeps h c above name o k =
     let w = call.Command name o in
     by_test (Kept h c above) (clients.has_ended c.state) (inputs.uses_number c) (inputs.unless (clients.call_refusal c) c (clients.makes_call c name o)) (λ e. unsent_keeps h c above k e)
@@ -286,7 +301,7 @@ calls_keeps h c above name o k =
     let rank : transcripts.commands_upto s (suc c.calls) (item.Called s (suc c.calls) w ∷ above) ≡ 1 + c.commands = new_rank c.calls c.commands s w above (low_numbers h c above s own unsent) own.commands in
     (refl, refl, omega (arith, rank)))))
 
-pub queries_keeps : (h : histories.History) (c : clients.Client) (above : List Item) (l : Level) (name : List ℕ) (q : Query) → standing.Stands h (seat_of c above) → Kept h c above (inputs.stepped c (inputs.Queries l name q))
+pub queries_keeps : (h : histories.History) (c : clients.Client) (above : List Item) (l : Level) (name : List ℕ) (q : Query) → standing.Stands h (seat_of c above) → Kept h c above (inputs.client_stepped c (inputs.Queries l name q))
 queries_keeps h c above l name q k =
     let w = call.Query l name q in
     by_test (Kept h c above) (clients.has_ended c.state) (inputs.uses_number c) (inputs.unless (clients.call_refusal c) c (clients.queries c l name q)) (λ e. unsent_keeps h c above k e)
@@ -294,20 +309,20 @@ queries_keeps h c above l name q k =
     (λ live free. called_keeps h c above None (Some l) c.commands c.commands w _ k live (omega arith)
     (λ s own unsent. (refl, refl, sym (new_below c.calls c.commands s w above (low_numbers h c above s own unsent) own.commands)))))
 
-pub keep_keeps : (h : histories.History) (c : clients.Client) (above : List Item) → standing.Stands h (seat_of c above) → Kept h c above (inputs.stepped c inputs.Keeps)
+pub keep_keeps : (h : histories.History) (c : clients.Client) (above : List Item) → standing.Stands h (seat_of c above) → Kept h c above (inputs.client_stepped c inputs.Keeps)
 keep_keeps h c above k =
     unless_if (Kept h c above) c (clients.keeps c) (not (clients.is_joined c.state)) reason.NoSession (ignored h c above k) (λ e. silent h c c above _ k refl (omega arith) k.own)
 
-pub resends_keeps : (h : histories.History) (c : clients.Client) (above : List Item) → standing.Stands h (seat_of c above) → Kept h c above (inputs.stepped c inputs.Resends)
+pub resends_keeps : (h : histories.History) (c : clients.Client) (above : List Item) → standing.Stands h (seat_of c above) → Kept h c above (inputs.client_stepped c inputs.Resends)
 resends_keeps h c above k =
     unless_if (Kept h c above) c (clients.resends c) (not (clients.is_busy c.state)) reason.NoSession (ignored h c above k) (λ e. silent h c c above _ k refl (omega arith) k.own)
 
-pub switches_keeps : (h : histories.History) (c : clients.Client) (above : List Item) (node : ℕ) → standing.Stands h (seat_of c above) → Kept h c above (inputs.stepped c (inputs.Switches node))
+pub switches_keeps : (h : histories.History) (c : clients.Client) (above : List Item) (node : ℕ) → standing.Stands h (seat_of c above) → Kept h c above (inputs.client_stepped c (inputs.Switches node))
 switches_keeps h c above node k =
     let d : clients.Client = record c { switch = sequencers.moved_to c.switch node } in
     silent h c d above (clients.to_server d (clients.again_of d)) k refl (omega arith) (placed h c above (Some node) c.state k.own)
 
-pub closes_keeps : (h : histories.History) (c : clients.Client) (above : List Item) → standing.Stands h (seat_of c above) → Kept h c above (inputs.stepped c inputs.Closes)
+pub closes_keeps : (h : histories.History) (c : clients.Client) (above : List Item) → standing.Stands h (seat_of c above) → Kept h c above (inputs.client_stepped c inputs.Closes)
 closes_keeps h c above k =
     let s = clients.own_session c.state in
     let d : clients.Client = record c { state = state.Closing s } in
@@ -372,7 +387,7 @@ no_requests_left rs us e = ap (λ qs. receipts.requests_left qs us) e
 
 -- an answer is taken: what may go then is given out
 pub answered_keeps : (h : histories.History) (c : clients.Client) (above : List Item) (n : ℕ) (g : Got) → standing.Stands h (seat_of c above) → clients.is_joined c.state ≡ true
-    → ((u : sequencers.Unanswered) (r : clients.Request) → standing.IsOwn h c above (clients.own_session c.state) → standing.IsAsked h above (clients.own_session c.state) u r → u.number ≡ n
+    → ((u : sequencers.Unanswered) (r : clients.Request) → standing.IsOwn h c above (clients.own_session c.state) → standing.IsOpenCall h above (clients.own_session c.state) u r → u.number ≡ n
     → standing.IsTrueGot h above (clients.own_session c.state) r r.call (Some g))
     → Kept h c above (receipts.releases (record c { sequencer = sequencers.with_answer c.sequencer n g }) [])
 answered_keeps h c above n g k here f =
@@ -389,7 +404,7 @@ answered_keeps h c above n g k here f =
 
 -- an answer for a call that is found, unless it has one
 gets_keeps : (h : histories.History) (c : clients.Client) (above : List Item) (g : Got) (o : Option sequencers.Unanswered) → standing.Stands h (seat_of c above) → clients.is_joined c.state ≡ true
-    → ((v u : sequencers.Unanswered) (r : clients.Request) → o ≡ Some v → standing.IsOwn h c above (clients.own_session c.state) → standing.IsAsked h above (clients.own_session c.state) u r → u.number ≡ v.number
+    → ((v u : sequencers.Unanswered) (r : clients.Request) → o ≡ Some v → standing.IsOwn h c above (clients.own_session c.state) → standing.IsOpenCall h above (clients.own_session c.state) u r → u.number ≡ v.number
     → standing.IsTrueGot h above (clients.own_session c.state) r r.call (Some g))
     → Kept h c above (receipts.gets c o g)
 gets_keeps h c above g None k here f = ignored h c above k
@@ -397,12 +412,12 @@ gets_keeps h c above g (Some v) k here f =
     by_test (Kept h c above) (is_some v.got) (clients.ignores c) (receipts.releases (record c { sequencer = sequencers.with_answer c.sequencer v.number g }) []) (λ e. ignored h c above k)
     (λ e. answered_keeps h c above v.number g k here (λ u r own i same. f v u r refl own i same))
 
-own_live : (c : clients.Client) (session : ℕ) → receipts.is_own_live c session ≡ true → (clients.is_joined c.state ≡ true) × (session ≡ clients.own_session c.state)
+pub own_live : (c : clients.Client) (session : ℕ) → receipts.is_own_live c session ≡ true → (clients.is_joined c.state ≡ true) × (session ≡ clients.own_session c.state)
 own_live c session e =
     let p : (clients.is_live_client c.state ≡ true) × (nat_eq session (clients.own_session c.state) ≡ true) = both (clients.is_live_client c.state) (nat_eq session (clients.own_session c.state)) e in
     (ap (λ b. if b then true else clients.is_closing c.state) p.0, equal session (clients.own_session c.state) p.1)
 
-own_joined : (c : clients.Client) (session : ℕ) → receipts.is_own c session ≡ true → (clients.is_joined c.state ≡ true) × (session ≡ clients.own_session c.state)
+pub own_joined : (c : clients.Client) (session : ℕ) → receipts.is_own c session ≡ true → (clients.is_joined c.state ≡ true) × (session ≡ clients.own_session c.state)
 own_joined c session e =
     let p : (clients.is_joined c.state ≡ true) × (nat_eq session (clients.own_session c.state) ≡ true) = both (clients.is_joined c.state) (nat_eq session (clients.own_session c.state)) e in
     (p.0, equal session (clients.own_session c.state) p.1)
@@ -419,9 +434,9 @@ seq_asked h above s seq u r (call.Query l name q) a e = let f : Some seq ≡ Non
 
 -- what a true reply says of each call of its number
 reply_got : (h : histories.History) (c : clients.Client) (above : List Item) (s seq place events : ℕ) (answer : Reply) (done : ℕ) (us : List sequencers.Unanswered) (rs : List clients.Request)
-    → standing.AreAsked h above s done us rs
+    → standing.AreOpenCalls h above s done us rs
     → standing.IsTrueReply h s seq (record { place = place; events = events; reach = None; reply = answer })
-    → (v u : sequencers.Unanswered) (r : clients.Request) → receipts.asked_command us seq ≡ Some v → standing.IsOwn h c above s → standing.IsAsked h above s u r → u.number ≡ v.number
+    → (v u : sequencers.Unanswered) (r : clients.Request) → receipts.asked_command us seq ≡ Some v → standing.IsOwn h c above s → standing.IsOpenCall h above s u r → u.number ≡ v.number
     → standing.IsTrueGot h above s r r.call (Some (record { place = place; events = events; reach = None; reply = answer }))
 reply_got h c above s seq place events answer done us rs asked true_reply v u r is own i same =
     let f : Found h above s (λ x. receipts.has_seq seq x.seq) v = found_pair h above s done (λ x. receipts.has_seq seq x.seq) us rs v asked is in
@@ -453,7 +468,7 @@ reached_by above level.Seq s n p term arrival r = tt
 -- what a true answer says of each call of its number
 answer_got : (h : histories.History) (c : clients.Client) (above : List Item) (s number : ℕ) (l : Level) (place events term arrival : ℕ) (answer : Reply)
     → payloads.IsTrueAnswer above h s number l place events term arrival answer
-    → (v u : sequencers.Unanswered) (r : clients.Request) → (nat_eq v.number number && receipts.has_level l v.level) ≡ true → standing.IsOwn h c above s → standing.IsAsked h above s u r → u.number ≡ v.number
+    → (v u : sequencers.Unanswered) (r : clients.Request) → (nat_eq v.number number && receipts.has_level l v.level) ≡ true → standing.IsOwn h c above s → standing.IsOpenCall h above s u r → u.number ≡ v.number
     → standing.IsTrueGot h above s r r.call (Some (record { place = place; events = events; reach = receipts.reach_of l term arrival; reply = answer }))
 answer_got h c above s number l place events term arrival answer t v u r passes own i same =
     let g : Got = record { place = place; events = events; reach = receipts.reach_of l term arrival; reply = answer } in
@@ -503,7 +518,7 @@ taken_keeps h c above b k here told up follows =
     shows h c (after_release d) above (x ∷ items) s _ k refl (omega arith) (omega (arith, joined_next c here)) now
     (refl, all_since (IsResponse s) (λ y. inputs.session_in y ≡ Some s) (λ y a. response_of s y a) items r.responses)
     (joined_again h c (after_release d) above (reverse (x ∷ items) ++ above) c.state here k.own
-    (record { own = now; ends = subst (λ ys. standing.HasEnds s ys 0) back r.ends; unsent = subst (λ ys. standing.HasUnsent s ys 0) back r.unsent })
+    (record { own = now; ends = subst (λ ys. standing.EndsAbove s ys 0) back r.ends; unsent = subst (λ ys. standing.UnsentAbove s ys 0) back r.unsent })
     (λ a. no_requests_left c.requests (sequencers.release_of d.sequencer).calls a))
     (event_claimed h c above s b.place b.prev b.events o j.ends, r.claimed) (responses_end s (x ∷ above) items r.responses)
 
@@ -527,7 +542,7 @@ batch_keeps h c above node session b k told is =
 -- what becomes of the calls without an outcome
 pub record Ends (h : histories.History) (c : clients.Client) (above : List Item) (s read : ℕ) (items : List Item) : Type 0 where
   pub own : standing.IsOwn h (client_at c [] [] read) (reverse items ++ above) s
-  pub ends : standing.HasEnds s (reverse items ++ above) 1
+  pub ends : standing.EndsAbove s (reverse items ++ above) 1
   pub claimed : transcripts.EachBelow (promises.IsClaimed h) above items
 
 end_outcome : (s read : ℕ) (u : sequencers.Unanswered) (n : ℕ) → u.number ≡ n → IsOutcomeOf s n read (receipts.outcome_at_end s u)
@@ -546,14 +561,14 @@ ends_mine : (s : ℕ) (us : List sequencers.Unanswered) → AreMine s (map (rece
 ends_mine s [] = tt
 ends_mine s (u ∷ us) = (end_mine s u, ends_mine s us)
 
-all_end : (h : histories.History) (c : clients.Client) (above : List Item) (s read : ℕ) (us : List sequencers.Unanswered) (rs : List clients.Request) → standing.IsOwn h (client_at c us rs read) above s → standing.HasEnds s above 1
+all_end : (h : histories.History) (c : clients.Client) (above : List Item) (s read : ℕ) (us : List sequencers.Unanswered) (rs : List clients.Request) → standing.IsOwn h (client_at c us rs read) above s → standing.EndsAbove s above 1
     → Ends h c above s read (map (receipts.outcome_at_end s) us)
 all_end h c above s read [] [] o ends = record { own = o; ends = ends; claimed = tt }
 all_end h c above s read [] (r ∷ rs) o ends = absurd o.asked
 all_end h c above s read (u ∷ us) [] o ends = absurd o.asked
 all_end h c above s read (u ∷ us) (r ∷ rs) o ends =
-    let a : (r.number ≡ suc o.done) × standing.IsAsked h above s u r × standing.AreAsked h above s (suc o.done) us rs = o.asked in
-    let i : standing.IsAsked h above s u r = a.1 in
+    let a : (r.number ≡ suc o.done) × standing.IsOpenCall h above s u r × standing.AreOpenCalls h above s (suc o.done) us rs = o.asked in
+    let i : standing.IsOpenCall h above s u r = a.1 in
     let y = receipts.outcome_at_end s u in
     let items = map (receipts.outcome_at_end s) us in
     let now : standing.IsOwn h (client_at c us rs read) (y ∷ above) s = own_outcome h c above s y u us r rs read read (end_outcome s read u r.number i.number) (omega arith) o in
@@ -561,7 +576,7 @@ all_end h c above s read (u ∷ us) (r ∷ rs) o ends =
     let back : reverse items ++ y ∷ above ≡ reverse (y ∷ items) ++ above = sym (reverse_onto y items above) in
     record {
       own = subst (λ ys. standing.IsOwn h (client_at c [] [] read) ys s) back more.own;
-      ends = subst (λ ys. standing.HasEnds s ys 1) back more.ends;
+      ends = subst (λ ys. standing.EndsAbove s ys 1) back more.ends;
       claimed = (end_claimed h above s u.number u (next_of h (client_at c (u ∷ us) (r ∷ rs) read) above s u.number o (i.number ∙ a.0)), more.claimed);
     }
 
@@ -570,18 +585,18 @@ doubted_as : (s : ℕ) (above : List Item) (u : sequencers.Unanswered) (r : clie
 doubted_as s above u r (call.Command name o) a e = ap (λ q. if not (is_some q) then item.Lost s u.number else item.Doubt s u.number) a.0 ∙ ap (λ n. item.Doubt s n) e
 doubted_as s above u r (call.Query l name q) a e = ap (λ z. if not (is_some z) then item.Lost s u.number else item.Doubt s u.number) a.0 ∙ ap (λ n. item.Lost s n) e
 
-all_doubted : (h : histories.History) (above : List Item) (s done : ℕ) (us : List sequencers.Unanswered) (rs : List clients.Request) → standing.AreAsked h above s done us rs
+all_doubted : (h : histories.History) (above : List Item) (s done : ℕ) (us : List sequencers.Unanswered) (rs : List clients.Request) → standing.AreOpenCalls h above s done us rs
     → map (receipts.outcome_at_end s) us ≡ map (outcome_order.doubted s) (map standing.asked_call rs)
 all_doubted h above s done [] [] a = refl
 all_doubted h above s done [] (r ∷ rs) a = absurd a
 all_doubted h above s done (u ∷ us) [] a = absurd a
 all_doubted h above s done (u ∷ us) (r ∷ rs) a =
-    let i : standing.IsAsked h above s u r = a.1 in
+    let i : standing.IsOpenCall h above s u r = a.1 in
     ap (λ x. x ∷ map (receipts.outcome_at_end s) us) (doubted_as s above u r r.call i.asked_so i.number)
     ∙ ap (λ xs. outcome_order.doubted s (r.number, r.call) ∷ xs) (all_doubted h above s (suc done) us rs a.2)
 
 -- an end that stands above is counted
-end_counts : (s p : ℕ) (way : How) (above : List Item) → transcripts.StandsIn (item.Ended s p way) above → standing.HasEnds s above 0 → ⊥
+end_counts : (s p : ℕ) (way : How) (above : List Item) → transcripts.StandsIn (item.Ended s p way) above → standing.EndsAbove s above 0 → ⊥
 end_counts s p way [] a e = a
 end_counts s p way (x ∷ above) (inl is) e =
     let one : count_by (outcome_order.is_ended s) (x ∷ above) ≡ suc (count_by (outcome_order.is_ended s) above) = count_yes (outcome_order.is_ended s) x above (ap (λ y. outcome_order.is_ended s y) is ∙ is_equal s s refl) in
@@ -591,11 +606,11 @@ end_counts s p way (x ∷ above) (inr a) e =
     end_counts s p way above a (omega (arith, more, e))
 
 -- where the client has asked for the close, nothing lacks an outcome
-closed_none : (h : histories.History) (c : clients.Client) (above : List Item) (s : ℕ) → standing.OwnStands h c above c.state → standing.HasEnds s above 0 → inputs.HasClosed (seat_of c above) s → c.requests ≡ []
+closed_none : (h : histories.History) (c : clients.Client) (above : List Item) (s : ℕ) → standing.OwnStands h c above c.state → standing.EndsAbove s above 0 → inputs.HasClosed (seat_of c above) s → c.requests ≡ []
 closed_none h c above s own ends (inl e) = (subst (standing.OwnStands h c above) e own).3
 closed_none h c above s own ends (inr (p, way, a)) = absurd (end_counts s p way above a ends)
 
-ends_step : (h : histories.History) (c : clients.Client) (above : List Item) (s place : ℕ) (way : How) → (o : standing.IsOwn h c above s) → standing.HasEnds s above 0 → standing.OwnStands h c above c.state
+ends_step : (h : histories.History) (c : clients.Client) (above : List Item) (s place : ℕ) (way : How) → (o : standing.IsOwn h c above s) → standing.EndsAbove s above 0 → standing.OwnStands h c above c.state
     → inputs.IsAskedEnd (seat_of c above) (payload.Ended s place way)
     → outcome_order.EndsStep above (item.Ended s place way ∷ map (receipts.outcome_at_end s) c.sequencer.calls)
 ends_step h c above s place how.Expired o ends own asked =
@@ -616,7 +631,7 @@ ended_keeps h c above session place way k is asked own_it =
     let x = item.Ended session place way in
     let none : ShowsNone session x = record { called = refl; outcome = refl; unsent = refl; unanswered = refl; opened = refl; heard = refl; upto = λ n. tt } in
     let own : standing.IsOwn h c (x ∷ above) session = own_aside h c above session x none j.own in
-    let one : standing.HasEnds session (x ∷ above) 1 = count_yes (outcome_order.is_ended session) x above (is_equal session session refl) ∙ ap (λ n. suc n) j.ends in
+    let one : standing.EndsAbove session (x ∷ above) 1 = count_yes (outcome_order.is_ended session) x above (is_equal session session refl) ∙ ap (λ n. suc n) j.ends in
     let items = map (receipts.outcome_at_end session) c.sequencer.calls in
     let e : Ends h c (x ∷ above) session c.sequencer.read items = all_end h c (x ∷ above) session c.sequencer.read c.sequencer.calls c.requests own one in
     let back : reverse items ++ x ∷ above ≡ reverse (x ∷ items) ++ above = sym (reverse_onto x items above) in
@@ -624,7 +639,7 @@ ended_keeps h c above session place way k is asked own_it =
     let d : clients.Client = record c { state = state.Ended session; sequencer = record c.sequencer { calls = [] }; requests = [] } in
     let last : standing.IsOwn h d (reverse (x ∷ items) ++ above) session = own_placed h (client_at c [] [] c.sequencer.read) (reverse (x ∷ items) ++ above) session c.switch.server (state.Ended session) now in
     shows h c d above (x ∷ items) session [] k refl (next_low c) (omega arith) last (refl, ends_mine session c.sequencer.calls)
-    (last, subst (λ ys. standing.HasEnds session ys 1) back e.ends, refl)
+    (last, subst (λ ys. standing.EndsAbove session ys 1) back e.ends, refl)
     (ended_claimed h c above session place way j.own j.ends is, e.claimed)
     (ends_step h c above session place way j.own j.ends k.own asked)
 

@@ -58,4 +58,4 @@ abbrev pub ExampleMayHappen : Type 0
 ExampleMayHappen = inputs.AllMayHappen example_history (inputs.new_seat 1) example_happenings
 
 abbrev pub ExampleShows : Type 0
-ExampleShows = reverse (inputs.all_happened (inputs.new_seat 1) example_happenings).above ≡ example_items
+ExampleShows = reverse (inputs.seat_after_all (inputs.new_seat 1) example_happenings).above ≡ example_items

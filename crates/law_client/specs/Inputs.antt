@@ -40,15 +40,15 @@ uses_number c = clients.client_step (clients.unsent c) (item.Unsent (clients.own
 abbrev pub calls_or_not : clients.Client → clients.ClientStep → clients.ClientStep
 calls_or_not c next = if clients.has_ended c.state then uses_number c else unless (clients.call_refusal c) c next
 
-abbrev pub stepped : clients.Client → Input → clients.ClientStep
-stepped c (Opens node) = unless (clients.open_refusal c) c (clients.opens c node)
-stepped c (Calls name o) = calls_or_not c (clients.makes_call c name o)
-stepped c (Queries level name q) = calls_or_not c (clients.queries c level name q)
-stepped c Keeps = unless (clients.keep_refusal c) c (clients.keeps c)
-stepped c Closes = unless (clients.close_refusal c) c (clients.closes c)
-stepped c Resends = unless (clients.resend_refusal c) c (clients.resends c)
-stepped c (Switches node) = clients.switches c node
-stepped c (Receives node p) = receipts.receives c node p
+abbrev pub client_stepped : clients.Client → Input → clients.ClientStep
+client_stepped c (Opens node) = unless (clients.open_refusal c) c (clients.opens c node)
+client_stepped c (Calls name o) = calls_or_not c (clients.makes_call c name o)
+client_stepped c (Queries level name q) = calls_or_not c (clients.queries c level name q)
+client_stepped c Keeps = unless (clients.keep_refusal c) c (clients.keeps c)
+client_stepped c Closes = unless (clients.close_refusal c) c (clients.closes c)
+client_stepped c Resends = unless (clients.resend_refusal c) c (clients.resends c)
+client_stepped c (Switches node) = clients.switches c node
+client_stepped c (Receives node p) = receipts.receives c node p
 
 -- a client, and the items above, the nearest first
 pub record Seat : Type 0 where
@@ -63,13 +63,13 @@ pub data Happening : Type 0 where
   Does : Input → Happening
   Sees : Item → Happening
 
-abbrev pub happened : Seat → Happening → Seat
-happened seat (Does i) = let next = stepped seat.client i in record { client = next.client; above = reverse next.out.items ++ seat.above }
-happened seat (Sees x) = record seat { above = x ∷ seat.above }
+abbrev pub seat_after : Seat → Happening → Seat
+seat_after seat (Does i) = let next = client_stepped seat.client i in record { client = next.client; above = reverse next.out.items ++ seat.above }
+seat_after seat (Sees x) = record seat { above = x ∷ seat.above }
 
-abbrev pub all_happened : Seat → List Happening → Seat
-all_happened seat [] = seat
-all_happened seat (x ∷ xs) = all_happened (happened seat x) xs
+abbrev pub seat_after_all : Seat → List Happening → Seat
+seat_after_all seat [] = seat
+seat_after_all seat (x ∷ xs) = seat_after_all (seat_after seat x) xs
 
 -- the session that an item is of
 abbrev pub session_in : Item → Option ℕ
@@ -116,4 +116,4 @@ MayHappen h seat (Sees x) = IsOfOthers seat.client.me h (session_in x)
 
 abbrev pub AllMayHappen : histories.History → Seat → List Happening → Type 0
 AllMayHappen h seat [] = Unit {0}
-AllMayHappen h seat (x ∷ xs) = MayHappen h seat x × AllMayHappen h (happened seat x) xs
+AllMayHappen h seat (x ∷ xs) = MayHappen h seat x × AllMayHappen h (seat_after seat x) xs

@@ -30,47 +30,47 @@ pub record IsClaimed (h : histories.History) (above : List Item) (x : Item) : Ty
 -- what holds of the items above and the items of each step of the client
 abbrev pub EachStep : (List Item → List Item → Type 0) → inputs.Seat → List inputs.Happening → Type 0
 EachStep P seat [] = Unit {0}
-EachStep P seat (inputs.Does i ∷ xs) = P seat.above (inputs.stepped seat.client i).out.items × EachStep P (inputs.happened seat (inputs.Does i)) xs
-EachStep P seat (inputs.Sees x ∷ xs) = EachStep P (inputs.happened seat (inputs.Sees x)) xs
+EachStep P seat (inputs.Does i ∷ xs) = P seat.above (inputs.client_stepped seat.client i).out.items × EachStep P (inputs.seat_after seat (inputs.Does i)) xs
+EachStep P seat (inputs.Sees x ∷ xs) = EachStep P (inputs.seat_after seat (inputs.Sees x)) xs
 
 -- for every history and client, and whatever happens at it that may happen
-abbrev pub Always : (histories.History → ℕ → List inputs.Happening → Type 0) → Type 0
-Always P = (h : histories.History) (me : ℕ) (xs : List inputs.Happening) → inputs.AllMayHappen h (inputs.new_seat me) xs → P h me xs
+abbrev pub AlwaysAtClient : (histories.History → ℕ → List inputs.Happening → Type 0) → Type 0
+AlwaysAtClient P = (h : histories.History) (me : ℕ) (xs : List inputs.Happening) → inputs.AllMayHappen h (inputs.new_seat me) xs → P h me xs
 
 -- a claim of each item of the client
 abbrev pub OfEach : (List Item → Item → Type 0) → ℕ → List inputs.Happening → Type 0
 OfEach P me xs = EachStep (transcripts.EachBelow P) (inputs.new_seat me) xs
 
 abbrev pub OutcomesFollowCalls : Type 0
-OutcomesFollowCalls = Always (λ h me xs. (s : ℕ) → OfEach (outcome_order.IsOutcome s) me xs)
+OutcomesFollowCalls = AlwaysAtClient (λ h me xs. (s : ℕ) → OfEach (outcome_order.IsOutcome s) me xs)
 
 abbrev pub ItemsStandInSession : Type 0
-ItemsStandInSession = Always (λ h me xs. (s : ℕ) → OfEach (outcome_order.IsInSession h s) me xs)
+ItemsStandInSession = AlwaysAtClient (λ h me xs. (s : ℕ) → OfEach (outcome_order.IsInSession h s) me xs)
 
 abbrev pub ReadsNeverGoBack : Type 0
-ReadsNeverGoBack = Always (λ h me xs. (s : ℕ) → OfEach (fresh_reads.IsGrowing h s) me xs)
+ReadsNeverGoBack = AlwaysAtClient (λ h me xs. (s : ℕ) → OfEach (fresh_reads.IsGrowing h s) me xs)
 
 abbrev pub EventsPrecedeResponses : Type 0
-EventsPrecedeResponses = Always (λ h me xs. (s : ℕ) → OfEach (claims_heard.IsAfterEvents h s) me xs)
+EventsPrecedeResponses = AlwaysAtClient (λ h me xs. (s : ℕ) → OfEach (claims_heard.IsAfterEvents h s) me xs)
 
 abbrev pub ClientItemsAreRight : Type 0
-ClientItemsAreRight = Always (λ h me xs. OfEach (claims_right.IsRight h) me xs)
+ClientItemsAreRight = AlwaysAtClient (λ h me xs. OfEach (claims_right.IsRight h) me xs)
 
 abbrev pub ReadsNameTheirReach : Type 0
-ReadsNameTheirReach = Always (λ h me xs. OfEach NamesReach me xs)
+ReadsNameTheirReach = AlwaysAtClient (λ h me xs. OfEach NamesReach me xs)
 
 abbrev pub EachStepEndsAsTold : Type 0
-EachStepEndsAsTold = Always (λ h me xs. EachStep outcome_order.EndsStep (inputs.new_seat me) xs)
+EachStepEndsAsTold = AlwaysAtClient (λ h me xs. EachStep outcome_order.EndsStep (inputs.new_seat me) xs)
 
 -- what a session of the client heard, in order, begins what the history tells it
 abbrev pub EventsComeInOrder : Type 0
-EventsComeInOrder = Always (λ h me xs. (s opening : ℕ) → payloads.IsOpeningOf me opening (lists.at_place h s)
-    → standing.HasHeard h (inputs.all_happened (inputs.new_seat me) xs).above s)
+EventsComeInOrder = AlwaysAtClient (λ h me xs. (s opening : ℕ) → payloads.IsOpeningOf me opening (lists.at_place h s)
+    → standing.HasHeard h (inputs.seat_after_all (inputs.new_seat me) xs).above s)
 
 -- the items of each of a client's inputs
 abbrev pub items_of_each : inputs.Seat → List inputs.Input → List (List Item)
 items_of_each seat [] = []
-items_of_each seat (i ∷ is) = (inputs.stepped seat.client i).out.items ∷ items_of_each (inputs.happened seat (inputs.Does i)) is
+items_of_each seat (i ∷ is) = (inputs.client_stepped seat.client i).out.items ∷ items_of_each (inputs.seat_after seat (inputs.Does i)) is
 
 -- a client alone: its steps end sessions as the claim of ends says
 abbrev pub SessionsEndAsTold : Type 0
@@ -81,10 +81,10 @@ SessionsEndAsTold = (h : histories.History) (me : ℕ) (is : List inputs.Input) 
 
 -- each step keeps how the client stands, and its items are as claimed
 pub record StepKeeps (h : histories.History) (seat : inputs.Seat) (x : inputs.Happening) : Type 0 where
-  pub stands : standing.Stands h (inputs.happened seat x)
+  pub stands : standing.Stands h (inputs.seat_after seat x)
   pub claimed : EachStep (transcripts.EachBelow (IsClaimed h)) seat (x ∷ [])
   pub ends : EachStep outcome_order.EndsStep seat (x ∷ [])
-  pub me : (inputs.happened seat x).client.me ≡ seat.client.me
+  pub me : (inputs.seat_after seat x).client.me ≡ seat.client.me
 
 abbrev pub EachStepKeeps : Type 0
 EachStepKeeps = (h : histories.History) (seat : inputs.Seat) (x : inputs.Happening) → standing.Stands h seat → inputs.MayHappen h seat x → StepKeeps h seat x

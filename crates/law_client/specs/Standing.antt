@@ -57,26 +57,26 @@ IsAskedSo above s u r (call.Command name o) = (u.seq ≡ Some r.seq) × (u.level
 IsAskedSo above s u r (call.Query l name q) = (u.seq ≡ None) × (u.level ≡ Some l) × (r.seq ≡ transcripts.commands_below s r.number above)
 
 -- a call without an outcome was called, under its number
-pub record IsAsked (h : histories.History) (above : List Item) (s : ℕ) (u : sequencers.Unanswered) (r : clients.Request) : Type 0 where
+pub record IsOpenCall (h : histories.History) (above : List Item) (s : ℕ) (u : sequencers.Unanswered) (r : clients.Request) : Type 0 where
   pub number : u.number ≡ r.number
   pub called : transcripts.StandsIn (item.Called s r.number r.call) above
   pub asked_so : IsAskedSo above s u r r.call
   pub got : IsTrueGot h above s r r.call u.got
 
 -- the calls without an outcome are numbered on from the outcomes
-abbrev pub AreAsked : histories.History → List Item → ℕ → ℕ → List sequencers.Unanswered → List clients.Request → Type 0
-AreAsked h above s done [] [] = Unit {0}
-AreAsked h above s done (u ∷ us) (r ∷ rs) = (r.number ≡ suc done) × IsAsked h above s u r × AreAsked h above s (suc done) us rs
-AreAsked h above s done us rs = ⊥
+abbrev pub AreOpenCalls : histories.History → List Item → ℕ → ℕ → List sequencers.Unanswered → List clients.Request → Type 0
+AreOpenCalls h above s done [] [] = Unit {0}
+AreOpenCalls h above s done (u ∷ us) (r ∷ rs) = (r.number ≡ suc done) × IsOpenCall h above s u r × AreOpenCalls h above s (suc done) us rs
+AreOpenCalls h above s done us rs = ⊥
 
 -- the number and the call of a request
 abbrev pub asked_call : clients.Request → ℕ × WindowCall
 asked_call r = (r.number, r.call)
 
 -- calls are numbered 1, 2, 3 from the last on
-abbrev pub AreNumbered : List (ℕ × WindowCall) → Type 0
-AreNumbered [] = Unit {0}
-AreNumbered (c ∷ cs) = (c.0 ≡ suc (length cs)) × AreNumbered cs
+abbrev pub AreNumberedDown : List (ℕ × WindowCall) → Type 0
+AreNumberedDown [] = Unit {0}
+AreNumberedDown (c ∷ cs) = (c.0 ≡ suc (length cs)) × AreNumberedDown cs
 
 -- the client's session, from its opening on
 pub record IsOwn (h : histories.History) (c : clients.Client) (above : List Item) (s : ℕ) : Type 0 where
@@ -86,13 +86,13 @@ pub record IsOwn (h : histories.History) (c : clients.Client) (above : List Item
   pub unanswered : count_by (outcome_order.is_unanswered s) above ≡ 0
   pub called : length (transcripts.calls s above) + count_by (outcome_order.is_unsent s) above ≡ c.calls
   pub commands : count_by (λ w. transcripts.is_command w.1) (transcripts.calls s above) ≡ c.commands
-  pub numbers : AreNumbered (transcripts.calls s above)
+  pub numbers : AreNumberedDown (transcripts.calls s above)
   -- how many outcomes there are
   pub done : ℕ
   pub outcomes : transcripts.outcome_count s above ≡ done
   pub still : done + length c.sequencer.calls ≡ c.calls
   pub below : AllByRecursion (outcome_order.IsBelowNumber s (suc done)) above
-  pub asked : AreAsked h above s done c.sequencer.calls c.requests
+  pub asked : AreOpenCalls h above s done c.sequencer.calls c.requests
   pub waiting : transcripts.unanswered s (reverse above) ≡ map asked_call c.requests
   -- what was heard, and what of all that is told is still to come
   pub told : List histories.Heard
@@ -103,17 +103,17 @@ pub record IsOwn (h : histories.History) (c : clients.Client) (above : List Item
   pub reads : AllByRecursion (fresh_reads.IsUpto s c.sequencer.read) above
 
 -- so many ends of the session stand above, and this is the number of calls without an outcome
-abbrev pub HasEnds : ℕ → List Item → ℕ → Type 0
-HasEnds s above n = count_by (outcome_order.is_ended s) above ≡ n
+abbrev pub EndsAbove : ℕ → List Item → ℕ → Type 0
+EndsAbove s above n = count_by (outcome_order.is_ended s) above ≡ n
 
-abbrev pub HasUnsent : ℕ → List Item → ℕ → Type 0
-HasUnsent s above n = count_by (outcome_order.is_unsent s) above ≡ n
+abbrev pub UnsentAbove : ℕ → List Item → ℕ → Type 0
+UnsentAbove s above n = count_by (outcome_order.is_unsent s) above ≡ n
 
 -- the client's own session, by its state
 abbrev pub OwnStands : histories.History → clients.Client → List Item → ClientState → Type 0
-OwnStands h c above (state.Live s) = IsOwn h c above s × HasEnds s above 0 × HasUnsent s above 0
-OwnStands h c above (state.Closing s) = IsOwn h c above s × HasEnds s above 0 × HasUnsent s above 0 × (c.requests ≡ [])
-OwnStands h c above (state.Ended s) = IsOwn h c above s × HasEnds s above 1 × (c.requests ≡ [])
+OwnStands h c above (state.Live s) = IsOwn h c above s × EndsAbove s above 0 × UnsentAbove s above 0
+OwnStands h c above (state.Closing s) = IsOwn h c above s × EndsAbove s above 0 × UnsentAbove s above 0 × (c.requests ≡ [])
+OwnStands h c above (state.Ended s) = IsOwn h c above s × EndsAbove s above 1 × (c.requests ≡ [])
 OwnStands h c above _ = Unit {0}
 
 -- the openings below this number may have given sessions
@@ -149,3 +149,4 @@ pub record Stands (h : histories.History) (seat : inputs.Seat) : Type 0 where
   pub old : AllByRecursion (λ x. IsOld seat.client.me (next_opening seat.client) h (inputs.session_in x)) seat.above
   pub own : OwnStands h seat.client seat.above seat.client.state
   pub heard : (s opening : ℕ) → payloads.IsOpeningOf seat.client.me opening (lists.at_place h s) → HasHeard h seat.above s
+  pub numbered : (s opening : ℕ) → payloads.IsOpeningOf seat.client.me opening (lists.at_place h s) → AreNumberedDown (transcripts.calls s seat.above)

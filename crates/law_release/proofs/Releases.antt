@@ -41,14 +41,14 @@ keeps heard seen read (u ∷ us) =
     (λ f. record { given = []; kept = u ∷ us; whole = refl; items = tt; read_at = refl; left = (refl, f, refl) })
     (λ f. given_on heard read u us u.got later refl e f (keeps heard seen_now read_now us)))
 
-given_numbers : (heard read : ℕ) (us : List sequencers.Unanswered) (xs : List (ℕ × Got)) → releases.AreGiven heard read us xs → map (λ u. u.number) us ≡ map (λ x. x.0) xs
+given_numbers : (heard read : ℕ) (us : List sequencers.Unanswered) (xs : List (ℕ × Got)) → releases.AreGivenOut heard read us xs → map (λ u. u.number) us ≡ map (λ x. x.0) xs
 given_numbers heard read [] [] a = refl
 given_numbers heard read [] (x ∷ xs) a = absurd a
 given_numbers heard read (u ∷ us) [] a = absurd a
 given_numbers heard read (u ∷ us) (x ∷ xs) a =
-    ap (λ n. n ∷ map (λ u. u.number) us) (sym a.0) ∙ ap (λ ns. x.0 ∷ ns) (given_numbers heard (releases.read_after read u x.1) us xs a.2)
+    ap (λ n. n ∷ map (λ u. u.number) us) (sym a.0) ∙ ap (λ ns. x.0 ∷ ns) (given_numbers heard (releases.read_after_giving read u x.1) us xs a.2)
 
-left_numbers : (heard read : ℕ) (kept : List sequencers.Unanswered) (again : Option ℕ) (calls : List sequencers.Unanswered) → releases.IsLeft heard read kept again calls
+left_numbers : (heard read : ℕ) (kept : List sequencers.Unanswered) (again : Option ℕ) (calls : List sequencers.Unanswered) → releases.IsKeptBack heard read kept again calls
     → map (λ u. u.number) kept ≡ map (λ u. u.number) calls
 left_numbers heard read kept None calls a = ap (λ us. map (λ u. u.number) us) (sym a.0)
 left_numbers heard read [] (Some number) calls a = absurd a

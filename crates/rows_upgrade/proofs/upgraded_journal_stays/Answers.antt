@@ -1,0 +1,8 @@
+use Rattle.std.proofs.Common.{refl}
+use Rattle.std.specs.Fmt.{digits}
+use Rattle.rows_upgrade.proofs.upgraded_journal_stays.Goals as goal
+
+-- the text is computed
+pub returns : goal.returns
+unfolding digits
+returns c = refl
