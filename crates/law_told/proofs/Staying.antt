@@ -135,7 +135,7 @@ history_grows items h more c (payload.Connect d s heard) k = tt
 history_grows items h more c (payload.Reset d s heard) k = tt
 
 -- no call has a number beyond how many there are
-abbrev AreCounted : List Item → Type 0
+abbrev pub AreCounted : List Item → Type 0
 AreCounted items = (s : ℕ) → AllByRecursion (λ c. c.0 ≤ length (transcripts.calls s items)) (transcripts.calls s items)
 
 calls_more : (s : ℕ) (x : Item) (items : List Item) → transcripts.calls s (x ∷ items) ≡ transcripts.called_by s x ++ transcripts.calls s items
@@ -223,17 +223,17 @@ none_below n k more xs l h = go more (all_since (λ c. (c.0 ≡ k + 1) × (lengt
         let z : 0 + count_by (is_command_below n) (cs ++ xs) ≡ count_by (is_command_below n) (cs ++ xs) = omega arith in
         sum_by-cons (λ y. cond (is_command_below n y) 1 0) c (cs ++ xs) ∙ ap (λ b. cond b 1 0 + count_by (is_command_below n) (cs ++ xs)) f ∙ z ∙ r
 
-same_below : (s n : ℕ) (w : WindowCall) (x : Item) (items : List Item) → outcome_order.IsNumbered s items x → AreCounted items → transcripts.StandsIn (item.Called s n w) items → transcripts.commands_below s n (x ∷ items) ≡ transcripts.commands_below s n items
+pub same_below : (s n : ℕ) (w : WindowCall) (x : Item) (items : List Item) → outcome_order.IsNumbered s items x → AreCounted items → transcripts.StandsIn (item.Called s n w) items → transcripts.commands_below s n (x ∷ items) ≡ transcripts.commands_below s n items
 same_below s n w x items k h i =
     let m = more_calls s x items k in
     ap (count_by (is_command_below n)) m.is ∙ none_below n (length (transcripts.calls s items)) m.more (transcripts.calls s items) (called_upto s n (length (transcripts.calls s items)) w items i (h s)) m.next
 
 -- as the items grow
-reached_more : (l : Level) (x : Item) (items : List Item) (s n p term arrival : ℕ) → payloads.IsReachedAt l items s n p term arrival → payloads.IsReachedAt l (x ∷ items) s n p term arrival
+pub reached_more : (l : Level) (x : Item) (items : List Item) (s n p term arrival : ℕ) → payloads.IsReachedAt l items s n p term arrival → payloads.IsReachedAt l (x ∷ items) s n p term arrival
 reached_more level.Lin x items s n p term arrival k = record { node = k.node; later = x ∷ k.later; earlier = k.earlier; there = ap (λ xs. x ∷ xs) k.there; covers = k.covers }
 reached_more level.Seq x items s n p term arrival k = tt
 
-pub item_grows : (x : Item) (items : List Item) (h : histories.History) (c : ℕ) (p : Payload) → ((s : ℕ) → outcome_order.IsNumbered s items x) → AreCounted items → payloads.IsTruePayload items h c p → payloads.IsTruePayload (x ∷ items) h c p
+item_grows : (x : Item) (items : List Item) (h : histories.History) (c : ℕ) (p : Payload) → ((s : ℕ) → outcome_order.IsNumbered s items x) → AreCounted items → payloads.IsTruePayload items h c p → payloads.IsTruePayload (x ∷ items) h c p
 item_grows x items h c (payload.Answer s n l p named term arrival r) m a k = record {
   name = k.name;
   query = k.query;
@@ -247,10 +247,11 @@ item_grows x items h c (payload.Answer s n l p named term arrival r) m a k = rec
 }
 item_grows x items h c p m a k = k
 
--- the items above each of a list, the nearest first
-items_grow : (later above : List Item) (h : histories.History) (c : ℕ) (p : Payload) → ((s : ℕ) → transcripts.EachBelow (outcome_order.IsNumbered s) above later) → AreCounted above → payloads.IsTruePayload above h c p → payloads.IsTruePayload (reverse_aux later above) h c p
-items_grow [] above h c p m a k = k
-items_grow (x ∷ later) above h c p m a k = items_grow later (x ∷ above) h c p (λ s. (m s).1) (counted_more x above (λ s. (m s).0) a) (item_grows x above h c p (λ s. (m s).0) a k)
+-- what stays as one item that is numbered is added stays as more are
+added : (P : List Item → Type 0) → ((x : Item) (items : List Item) → ((s : ℕ) → outcome_order.IsNumbered s items x) → AreCounted items → P items → P (x ∷ items))
+    → (later above : List Item) → ((s : ℕ) → transcripts.EachBelow (outcome_order.IsNumbered s) above later) → AreCounted above → P above → P (reverse_aux later above)
+added P one [] above m a k = k
+added P one (x ∷ later) above m a k = added P one later (x ∷ above) (λ s. (m s).1) (counted_more x above (λ s. (m s).0) a) (one x above (λ s. (m s).0) a k)
 
 counted_all : (early later above : List Item) → ((s : ℕ) → transcripts.EachBelow (outcome_order.IsNumbered s) above (early ++ later)) → AreCounted above → AreCounted (reverse_aux early above) × ((s : ℕ) → transcripts.EachBelow (outcome_order.IsNumbered s) (reverse_aux early above) later)
 counted_all [] later above m a = (a, m)
@@ -260,10 +261,15 @@ reversed : (early later above : List Item) → reverse_aux (early ++ later) abov
 reversed [] later above = refl
 reversed (x ∷ early) later above = reversed early later (x ∷ above)
 
+pub items_grow : (P : List Item → Type 0) → ((x : Item) (items : List Item) → ((s : ℕ) → outcome_order.IsNumbered s items x) → AreCounted items → P items → P (x ∷ items))
+    → (early later : List Item) → truths.AreCallsNumbered (early ++ later) → P (reverse early) → P (reverse (early ++ later))
+items_grow P one early later numbered k =
+    let a = counted_all early later [] numbered (λ s. tt) in
+    subst P (sym (reversed early later [])) (added P one later (reverse early) a.1 a.0 k)
+
 pub payloads_stay_true : truths.PayloadsStayTrue
 payloads_stay_true early later h more c p numbered k =
-    let a = counted_all early later [] numbered (λ s. tt) in
-    subst (λ items. payloads.IsTruePayload items (h ++ more) c p) (sym (reversed early later [])) (items_grow later (reverse early) (h ++ more) c p a.1 a.0 (history_grows (reverse early) h more c p k))
+    items_grow (λ items. payloads.IsTruePayload items (h ++ more) c p) (λ x items m a t. item_grows x items (h ++ more) c p m a t) early later numbered (history_grows (reverse early) h more c p k)
 
 -- what a payload tells of is within
 too_within : (p : ℕ) (es : List Event) (xs : List histories.Heard) → AllByRecursion (λ e. e.place ≤ p) xs → AllByRecursion (λ e. e.place ≤ suc p) (histories.heard_too (suc p) es xs)

@@ -1,0 +1,3 @@
+pub mod TrueServers
+pub mod TrueSteps
+pub mod Passing
