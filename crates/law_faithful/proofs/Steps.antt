@@ -74,10 +74,10 @@ pub each_more : (P : List Item → Item → Type 0) (early xs : List Item) → t
 each_more P early xs h k = each_append P [] early xs h (subst (λ above. transcripts.EachBelow P above xs) (sym (below_early [] early)) k)
 
 -- what is known before a step
-abbrev Before : (nodes clients time : ℕ) (h : histories.History) (l : ledgers.Ledger) (w : worlds.World) (early : List Item) → Type 0
+abbrev pub Before : (nodes clients time : ℕ) (h : histories.History) (l : ledgers.Ledger) (w : worlds.World) (early : List Item) → Type 0
 Before nodes clients time h l w early = faith.Holds nodes clients time h l w early
 
-true_kept : (nodes clients time : ℕ) (h : histories.History) (l : ledgers.Ledger) (w : worlds.World) (early : List Item) → Before nodes clients time h l w early → seats.AreTrueKept h w (reverse early)
+pub true_kept : (nodes clients time : ℕ) (h : histories.History) (l : ledgers.Ledger) (w : worlds.World) (early : List Item) → Before nodes clients time h l w early → seats.AreTrueKept h w (reverse early)
 true_kept nodes clients time h l w early x = go (plan_cases.kept_packets w.bag) x.told x.requests.ends
   where
     one : (p : Packet) (a : End) → p.to ≡ a → true_steps.IsTrueTo (reverse early) h a p.payload
