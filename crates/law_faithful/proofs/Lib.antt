@@ -1,6 +1,7 @@
 pub mod Requests
 pub mod Steps
 pub mod Seating
+pub mod Openings
 pub mod Watches
 pub mod Marks
 pub mod Runs

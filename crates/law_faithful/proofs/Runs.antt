@@ -1,6 +1,6 @@
 -- Every run is faithful.
 use Rattle.std.proofs.Common.{◌≡◌, ℕ, zero, suc, List, [], ◌∷◌, ◌++◌, length, map, reverse, refl, ap, sym, ◌∙◌, subst, inl, inr, append_assoc, append-nil}
-use Rattle.std.specs.Prelude.{Option, Some, None}
+use Rattle.std.specs.Prelude.{Option, Some, None, flat_map, slice_get}
 use Rattle.std.specs.List.{AllByRecursion}
 use Rattle.std.proofs.lemmas.List.{reverse-append}
 use Rattle.ax_types.specs.Places as lists
@@ -10,6 +10,7 @@ use Rattle.ax_types.specs.declared.ops.Level.{Level}
 use Rattle.ax_types.specs.declared.ops.Level.TheVariants as level
 use Rattle.ax_types.specs.declared.ops.WindowCall.TheVariants as call
 use Rattle.ax_types.specs.declared.steps.KeptStep.{KeptStep}
+use Rattle.ax_types.specs.declared.steps.WatchKind.{WatchKind}
 use Rattle.spec_book.specs.History as histories
 use Rattle.spec_claims.specs.Transcript as transcripts
 use Rattle.spec_claims.specs.Once as once
@@ -25,6 +26,7 @@ use Rattle.spec_run.specs.Run as runs
 use Rattle.spec_run.specs.KeptStores as kept_stores
 use Rattle.law_client.specs.Promises as promises
 use Rattle.law_client.specs.Standing as standing
+use Rattle.law_growth.proofs.Cases.{none_some, some_same}
 use Rattle.law_growth.proofs.Numbers.{at_cluster, history_follows, histories_follow}
 use Rattle.law_answers.specs.TrueServers as true_servers
 use Rattle.law_answers.proofs.Lasting.{servers_start}
@@ -40,8 +42,9 @@ use Rattle.law_seats.specs.Seats as seats
 use Rattle.law_seats.proofs.Seats.{each_step_seats}
 use Rattle.law_seats.proofs.Runs.{runs_are_claimed}
 use Rattle.law_faithful.specs.Faith as faith
-use Rattle.law_faithful.proofs.Steps.{below_early, each_since, true_kept, step_holds}
-use Rattle.law_faithful.proofs.Watches.{are_watched}
+use Rattle.law_faithful.proofs.Steps.{below_early, each_since, each_more, true_kept, step_holds}
+use Rattle.law_faithful.proofs.Seating.{all_watches}
+use Rattle.law_faithful.proofs.Watches.{AreKnown, step_watched}
 use Rattle.law_faithful.proofs.Marks.{IsReachCalled, AreMarked, step_marks}
 
 -- the beginning
@@ -71,6 +74,33 @@ HoldsOn nodes clients time l w early = (h : histories.History) → once.Begins w
 
 begins_on : (a b c : histories.History) → once.Begins a b → once.Begins b c → once.Begins a c
 begins_on a b c x y = (x.0 ++ y.0, y.1 ∙ ap (λ hs. hs ++ y.0) x.1 ∙ append_assoc a x.0 y.0)
+
+-- what watches show, as long as the items are right
+are_watched : (nodes clients time : ℕ) (h : histories.History) (l : ledgers.Ledger) (w : worlds.World) (early : List Item) (steps : List KeptStep) (watches : List (ℕ × WatchKind)) (opened : List (ℕ × ℕ)) → HoldsOn nodes clients time l w early
+    → once.Begins (runs.ran w steps).world.history h → transcripts.EachItem (claims_right.IsRight h) early → AreKnown watches (all_watches w.seats) → opened ≡ flat_map claims_heard.opened_by early
+    → claims_heard.AreWatchedFrom watches opened (runs.ran w steps).shown
+are_watched nodes clients time h l w early [] watches opened all b right known was_open = tt
+are_watched nodes clients time h l w early (k ∷ steps) watches opened all b right known was_open =
+    let m : moves.Moved = moves.moved w k in
+    let step : once.Begins w.history m.world.history = history_follows w k in
+    let after : once.Begins m.world.history h = begins_on m.world.history (runs.ran m.world steps).world.history h (histories_follow m.world steps) b in
+    let next : HoldsOn nodes clients time (ledgers.ledger_by l w k) m.world (early ++ m.items) = (λ g c. step_holds nodes clients time g l w early k (all g (begins_on w.history m.world.history g step c)) c) in
+    let x = all h (begins_on w.history m.world.history h step after) in
+    let told : seats.AreTrueKept h w (reverse early) = true_kept nodes clients time h l w early x in
+    let seat = each_step_seats h w (reverse early) k x.stand told in
+    let new : transcripts.EachItem (claims_right.IsRight h) (early ++ m.items) = each_more (claims_right.IsRight h) early m.items right (each_since (promises.IsClaimed h) (claims_right.IsRight h) (λ above y c. c.right) (reverse early) m.items seat.claimed) in
+    let s = step_watched h w early k watches opened x.stand told new known was_open in
+    (s.items, are_watched nodes clients time h (ledgers.ledger_by l w k) m.world (early ++ m.items) steps (claims_heard.watches_after watches k.step m.items) (opened ++ flat_map claims_heard.opened_by m.items) next b new s.known s.opened_then)
+
+-- nobody watches at the beginning
+new_from : (a b j : ℕ) (ws : List WatchKind) → slice_get (all_watches (map worlds.new_watcher (lists.numbers_from a b))) j ≡ Some ws → [] ≡ ws
+new_from a zero j ws e = none_some ws e
+new_from a (suc b) zero ws e = some_same [] ws e
+new_from a (suc b) (suc j) ws e = new_from (suc a) b j ws e
+
+new_known : (nodes clients time : ℕ) → AreKnown [] (all_watches (worlds.new_world nodes clients time).seats)
+new_known nodes clients time zero ws e = none_some ws e
+new_known nodes clients time (suc j) ws e = new_from 1 clients j ws e
 
 -- and of the items
 pub record RunHolds (h : histories.History) (w : worlds.World) (early : List Item) (steps : List KeptStep) : Type 0 where
@@ -190,7 +220,7 @@ runs_are_faithful nodes clients time steps =
           (each_above IsReachCalled ordered.IsInOrder [] all tt holds.called (node_items_are_ordered nodes clients time steps));
       fresh = each_since (λ ys y. promises.IsClaimed h ys y × IsReachCalled ys y × AllAbove IsReachCalled ys) fresh_reads.IsFresh (λ above x k. fresh above x k.2 k.0.reached) [] all
           (each_above IsReachCalled (promises.IsClaimed h) [] all tt holds.called c.claimed);
-      watched = are_watched nodes clients time steps c;
+      watched = are_watched nodes clients time h ledgers.new_ledger (worlds.new_world nodes clients time) [] steps [] [] (λ g b. new_holds nodes clients time g) ([], sym (append-nil h)) tt (new_known nodes clients time) refl;
       ends = c.ends;
       sessions = λ s. record {
         once = record { in_order = holds.commands s; called_before = holds.before s };

@@ -69,7 +69,7 @@ greatest_below above (x ∷ xs) =
     omega (arith, a, b, c)
 
 -- counting
-count_cons : {X : Type 0} (p : X → Bool) (x : X) (xs : List X) → count_by p (x ∷ xs) ≡ cond (p x) 1 0 + count_by p xs
+pub count_cons : {X : Type 0} (p : X → Bool) (x : X) (xs : List X) → count_by p (x ∷ xs) ≡ cond (p x) 1 0 + count_by p xs
 count_cons p x xs =
     let a : count_by p (x ∷ xs) ≡ count_by p (x ∷ []) + count_by p xs = sum_by-append (λ y. cond (p y) 1 0) (x ∷ []) xs in
     let b : count_by p (x ∷ []) ≡ 0 + cond (p x) 1 0 = refl in
