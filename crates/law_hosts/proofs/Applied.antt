@@ -40,6 +40,7 @@ use Rattle.law_growth.proofs.Cases.{none_some, some_same, plan_case}
 use Rattle.law_growth.proofs.Numbers.{placed, raft_goes, carried_shape, carried_numbers, new_numbers}
 use Rattle.law_hosts.specs.Ledger as ledgers
 use Rattle.law_hosts.specs.Hosts as hosts
+use Rattle.law_sessions.specs.Folds as folds
 use Rattle.law_hosts.specs.Committed as laws
 use Rattle.law_hosts.proofs.Matched.{MatchedAll, system_of, stands_up, serves_well, carried_matched, new_matched}
 use Rattle.law_hosts.proofs.Growth.{past_of, input_grows}
@@ -95,8 +96,8 @@ serves_state timeout old new h i s =
     record {
       within = s.holds.within;
       state = applies_state g.raft g.connections h.server.state (server_steps.to_apply g.raft h.server.state)
-          ∙ ap (laws.applied_all h.server.state) (applies timeout old new h i s)
-          ∙ ap (λ x. laws.applied_all x (drop c (take g.raft.commit new))) s.before.state
+          ∙ ap (folds.applied_all h.server.state) (applies timeout old new h i s)
+          ∙ ap (λ x. folds.applied_all x (drop c (take g.raft.commit new))) s.before.state
           ∙ state_goes_on timeout old new c g.raft.commit s.begins s.before.within s.rises;
     }
 
@@ -109,11 +110,11 @@ serves_history timeout old new h i s =
     let g : server_steps.Stage = server_steps.stage h.server (servers.task h.server i) in
     let d : ℕ = g.raft.commit in
     let es : List Entry = drop c (take d new) in
-    let acts : List (ℕ × Act) = kept_stores.acts_from (laws.state_of timeout (take c old)) es in
+    let acts : List (ℕ × Act) = kept_stores.acts_from (folds.sessions_after timeout (take c old)) es in
     let given : g.progress.acts ≡ acts =
     applies_acts g.raft g.connections h.server.state (server_steps.to_apply g.raft h.server.state) ∙ ap (kept_stores.acts_from h.server.state) (applies timeout old new h i s) ∙ ap (λ x. kept_stores.acts_from x es) s.before.state in
     let taken : length (take d new) ≡ d = length-take-le d new s.holds.within in
-    let count : length acts ≡ d - c = acts_count (laws.state_of timeout (take c old)) es ∙ length-drop c (take d new) ∙ ap (λ n. n - c) taken in
+    let count : length acts ≡ d - c = acts_count (folds.sessions_after timeout (take c old)) es ∙ length-drop c (take d new) ∙ ap (λ n. n - c) taken in
     let history : List (ℕ × Act) = kept_stores.acts_of timeout old in
     ap {A = record { 0 : ℕ; 1 : List (ℕ × Act) }} (λ x. history ++ drop (length history - (x.0 - length x.1)) x.1) (λ j. (out_committed h.server.raft (servers.task h.server i).input j, given j))
     ∙ added_acts history acts (length old) c d (acts_count (sessions.new_sessions timeout) old) count s.rises
@@ -123,7 +124,7 @@ serves_history timeout old new h i s =
 fresh : (timeout : ℕ) (committed : List Entry) (h : worlds.Host) (me nodes time : ℕ) (kept : Loaded) → time ≡ timeout → h.server ≡ servers.server_from me nodes time kept → laws.HasApplied timeout committed h
 fresh timeout committed h me nodes time kept e f = record {
   within = subst (λ (x : servers.Server). x.raft.commit ≤ length committed) (sym f) (omega arith);
-  state = subst (λ (x : servers.Server). x.state ≡ laws.state_of timeout (take x.raft.commit committed)) (sym f) (ap sessions.new_sessions e);
+  state = subst (λ (x : servers.Server). x.state ≡ folds.sessions_after timeout (take x.raft.commit committed)) (sym f) (ap sessions.new_sessions e);
 }
 
 same_stands : (l : ledgers.Ledger) (w v : worlds.World) → v.timeout ≡ w.timeout → v.history ≡ w.history → v.hosts ≡ w.hosts → Stands l w → Stands l v
@@ -142,7 +143,7 @@ applied_stays timeout old new h b a =
     let long : length new ≡ length old + length b.0 = ap length b.1 ∙ length-append old b.0 in
     record {
       within = omega (arith, a.within, long);
-      state = a.state ∙ ap (laws.state_of timeout) (sym (take-append-le c old b.0 a.within) ∙ ap (take c) (sym b.1));
+      state = a.state ∙ ap (folds.sessions_after timeout) (sym (take-append-le c old b.0 a.within) ∙ ap (take c) (sym b.1));
     }
 
 -- each step

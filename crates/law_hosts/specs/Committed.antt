@@ -1,28 +1,20 @@
 -- What is committed in a run: the history is its acts, and each server has applied a beginning of it.
-use Rattle.std.specs.Prelude.{ℕ, suc, ◌≡◌, ◌≤◌, true, Some, List, [], ◌∷◌, ◌++◌, length, take}
+use Rattle.std.specs.Prelude.{ℕ, ◌≡◌, ◌≤◌, true, Some, List, ◌++◌, length, take}
 use Rattle.ax_types.specs.Places as lists
 use Rattle.ax_types.specs.declared.entries.Entry.{Entry}
 use Rattle.ax_types.specs.declared.steps.KeptStep.{KeptStep}
 use Rattle.spec_claims.specs.Once as once
-use Rattle.spec_sessions.specs.Sessions as sessions
 use Rattle.spec_world.specs.Worlds as worlds
 use Rattle.spec_run.specs.Run as runs
 use Rattle.spec_run.specs.KeptStores as kept_stores
 use Rattle.law_agreement.specs.Agreement as agreements
+use Rattle.law_sessions.specs.Folds as folds
 use Rattle.law_hosts.specs.Ledger as ledgers
-
--- the session state after some more entries, and after all of a log
-abbrev pub applied_all : sessions.Sessions → List Entry → sessions.Sessions
-applied_all s [] = s
-applied_all s (e ∷ es) = applied_all (sessions.applying s (suc s.applied) e) es
-
-abbrev pub state_of : ℕ → List Entry → sessions.Sessions
-state_of timeout es = applied_all (sessions.new_sessions timeout) es
 
 -- a server has applied what is committed up to its commit
 pub record HasApplied (timeout : ℕ) (committed : List Entry) (h : worlds.Host) : Type 0 where
   pub within : h.server.raft.commit ≤ length committed
-  pub state : h.server.state ≡ state_of timeout (take h.server.raft.commit committed)
+  pub state : h.server.state ≡ folds.sessions_after timeout (take h.server.raft.commit committed)
 
 abbrev pub ServersHaveApplied : Type 0
 ServersHaveApplied = (nodes clients timeout : ℕ) (steps : List KeptStep) (k : ℕ) (h : worlds.Host) → lists.at_place (runs.run nodes clients timeout steps).world.hosts k ≡ Some h

@@ -18,7 +18,7 @@ use Rattle.law_refinement.proofs.Tests.{by_test, is_above, not_above, same_test}
 use Rattle.law_reads.specs.Reads as reads
 use Rattle.law_reads.proofs.Takens.{stays_at, last_at, was_or_new, of_more, of_own, of_other, map_more}
 use Rattle.law_items.specs.Ordered as laws
-use Rattle.law_items.proofs.Quiet.{AllQuiet, IsQuiet, Counts, quiet}
+use Rattle.law_items.proofs.Quiet.{AllQuiet, IsQuiet, WasTaken, CoversItem, Counts, quiet}
 
 -- the items above, after more
 abbrev pub below : List Item → List Item → List Item
@@ -84,12 +84,49 @@ count_push p xs x =
 pub count_skip : {X : Type 0} (p : X → Bool) (x : X) (xs : List X) → p x ≡ false → count_by p (x ∷ xs) ≡ count_by p xs
 count_skip p x xs e = count_cons p x xs ∙ ap (λ b. cond b 1 0 + count_by p xs) e ∙ (let h : 0 + count_by p xs ≡ count_by p xs = omega arith in h)
 
+-- each read that was reached was taken
+abbrev pub Covers : List clusters.ReadTaken → List Item → Type 0
+Covers takens [] = Unit {0}
+Covers takens (x ∷ above) = CoversItem takens x above × Covers takens above
+
+taken_more : (takens more : List clusters.ReadTaken) (t a : ℕ) (above : List Item) → WasTaken takens t a above → WasTaken (takens ++ more) t a above
+taken_more takens more t a above x = record { place = x.place; taken = x.taken; found = stays_at takens more x.place x.taken x.found; term = x.term; arrival = x.arrival; covers = x.covers }
+
+covers_item : (takens more : List clusters.ReadTaken) (x : Item) (above : List Item) → CoversItem takens x above → CoversItem (takens ++ more) x above
+covers_item takens more (item.Reach k t a s n) above h = taken_more takens more t a above h
+covers_item takens more (item.Halted xa) above h = tt
+covers_item takens more (item.Opened xa xb) above h = tt
+covers_item takens more (item.Called xa xb xc) above h = tt
+covers_item takens more (item.Event xa xb xc xd) above h = tt
+covers_item takens more (item.Watched xa xb xc xd xe) above h = tt
+covers_item takens more (item.Reply xa xb xc xd) above h = tt
+covers_item takens more (item.Read xa xb xc xd xe xf) above h = tt
+covers_item takens more (item.Ended xa xb xc) above h = tt
+covers_item takens more (item.Doubt xa xb) above h = tt
+covers_item takens more (item.Lost xa xb) above h = tt
+covers_item takens more (item.Unsent xa xb) above h = tt
+covers_item takens more (item.Unanswered xa xb) above h = tt
+covers_item takens more (item.Listed xa) above h = tt
+covers_item takens more (item.Pending xa xb xc xd) above h = tt
+covers_item takens more (item.Skip xa) above h = tt
+covers_item takens more (item.Leader xa xb) above h = tt
+covers_item takens more (item.Commit xa) above h = tt
+
+covers_more : (takens more : List clusters.ReadTaken) (above : List Item) → Covers takens above → Covers (takens ++ more) above
+covers_more takens more [] h = tt
+covers_more takens more (x ∷ above) h = (covers_item takens more x above h.0, covers_more takens more above h.1)
+
+pub covers_at : (takens : List clusters.ReadTaken) (later : List Item) (x : Item) (earlier : List Item) → Covers takens (later ++ x ∷ earlier) → CoversItem takens x earlier
+covers_at takens [] x earlier h = h.0
+covers_at takens (y ∷ later) x earlier h = covers_at takens later x earlier h.1
+
 -- what the items so far say of leaders, of reads that were reached, and of commits
 pub record Shows (leds : List clusters.Led) (takens : List clusters.ReadTaken) (places : ℕ) (above : List Item) : Type 0 where
   pub commits : transcripts.greatest_commit above ≡ places
   pub leaders : (t : ℕ) → count_by (claims_right.is_leader_in t) above ≡ count_by (λ (d : clusters.Led). nat_eq t d.term) leds
   pub told : (i : ℕ) (d : clusters.Led) → lists.at_place leds i ≡ Some d → transcripts.StandsIn (item.Leader d.node d.term) above
   pub reaches : (t : ℕ) → count_by (claims_right.is_reach_in t) above ≡ length (reads.of_term t takens)
+  pub covers : Covers takens above
 
 -- other items say nothing of them
 pub shows_quiet : (leds : List clusters.Led) (takens : List clusters.ReadTaken) (places : ℕ) (above items : List Item) → AllQuiet items → Shows leds takens places above
@@ -102,6 +139,7 @@ shows_quiet leds takens places above (x ∷ items) h s =
       leaders = λ t. count_skip (claims_right.is_leader_in t) x above (q.leader t) ∙ s.leaders t;
       told = λ i d e. inr (s.told i d e);
       reaches = λ t. count_skip (claims_right.is_reach_in t) x above (q.reach t) ∙ s.reaches t;
+      covers = (q.cover takens above, s.covers);
     }) in
     ((q.order above, r.0), r.1)
 
@@ -142,6 +180,7 @@ leader_part leds takens places above k a true s once =
             ∙ sym (count_push (λ (c : clusters.Led). nat_eq u c.term) leds d);
         told = λ i c e. was_or_new (λ x. transcripts.StandsIn (item.Leader x.node x.term) (item.Leader k t ∷ above)) leds (d ∷ []) i c e (λ q f. inr (s.told q c f)) (inl refl, tt);
         reaches = λ u. count_skip (claims_right.is_reach_in u) (item.Leader k t) above refl ∙ s.reaches u;
+        covers = (tt, s.covers);
       },
     )
 
@@ -156,6 +195,7 @@ commit_part leds takens places d above s =
         leaders = λ u. count_skip (claims_right.is_leader_in u) (item.Commit d) above refl ∙ s.leaders u;
         told = λ i x f. inr (s.told i x f);
         reaches = λ u. count_skip (claims_right.is_reach_in u) (item.Commit d) above refl ∙ s.reaches u;
+        covers = (tt, s.covers);
       },
     ))
     (λ e. let le : d ≤ places = not_above places d e in (tt, subst (λ m. Shows leds takens m above) (let h : places ≡ max places d = omega (arith, le) in h) s))
@@ -191,6 +231,7 @@ pub record Reached (k : ℕ) (x a : raft_nodes.Node) (read : Option Held) (arriv
   pub me : a.ballot.me ≡ k
   pub term : a.ballot.term ≡ x.ballot.term
   pub leader : transcripts.StandsIn (item.Leader k a.ballot.term) above
+  pub covered : transcripts.greatest_commit above ≤ places
   pub numbered : map (λ (y : clusters.ReadTaken). y.arrival) (reads.of_term x.ballot.term (takens ++ clusters.taken_by k x places (Some arrival))) ≡ lists.numbers_from 1 (length (reads.of_term x.ballot.term (takens ++ clusters.taken_by k x places (Some arrival))))
 
 abbrev pub IfReached : ℕ → raft_nodes.Node → raft_nodes.Node → Option Held → Option ℕ → ℕ → List Item → List clusters.ReadTaken → Type 0
@@ -225,6 +266,7 @@ reach_part leds takens places above k committed x a read (Some arrival) s f =
         told = λ i d e. inr (s.told i d e);
         reaches = λ u. count_cons (claims_right.is_reach_in u) (item.Reach a.ballot.me t arrival h.session h.call) above ∙ (let q = s.reaches u in let g : cond (nat_eq u t) 1 0 + count_by (claims_right.is_reach_in u) above ≡ cond (nat_eq u t) 1 0 + length (reads.of_term u takens) = omega (arith, q) in g)
             ∙ ap (λ v. cond (nat_eq u v) 1 0 + length (reads.of_term u takens)) f.term ∙ sym (of_length u takens y);
+        covers = (record { place = suc (length takens); taken = y; found = last_at takens y; term = sym f.term; arrival = refl; covers = f.covered }, covers_more takens (y ∷ []) above s.covers);
       },
     ) in
     subst (λ o. Part leds (takens ++ y ∷ []) places above (moves.option_item (server_steps.reach_item a o (Some arrival)))) (sym f.is_read) part

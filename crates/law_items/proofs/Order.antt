@@ -1,5 +1,5 @@
 -- The order of the items of nodes, step by step.
-use Rattle.std.proofs.Common.{◌≡◌, ℕ, zero, suc, ◌+◌, ◌≤◌, max, List, [], ◌∷◌, ◌++◌, length, map, refl, ap, sym, ◌∙◌, subst, arith, inl, inr, length-append}
+use Rattle.std.proofs.Common.{◌≡◌, ℕ, zero, suc, ◌+◌, ◌≤◌, max, List, [], ◌∷◌, ◌++◌, length, map, refl, ap, sym, ◌∙◌, subst, arith, inl, inr, length-append, append_assoc, append-nil}
 use Rattle.std.specs.Prelude.{◌⊎◌, Bool, true, false, Option, Some, None}
 use Rattle.std.specs.List.{AllByRecursion}
 use Rattle.ax_types.specs.Places as lists
@@ -26,11 +26,11 @@ use Rattle.spec_world.specs.Moves as moves
 use Rattle.spec_run.specs.Run as runs
 use Rattle.law_agreement.proofs.Agreement.{led_once}
 use Rattle.law_reads.specs.Reads as reads
-use Rattle.law_reads.proofs.Takens.{stays_at}
+use Rattle.law_reads.proofs.Takens.{stays_at, last_at}
 use Rattle.law_reads.proofs.Transitions.{has_service}
 use Rattle.law_growth.specs.PlanCases as plan_cases
 use Rattle.law_growth.specs.Staying as staying
-use Rattle.law_growth.proofs.Cases.{true_false, plan_case}
+use Rattle.law_growth.proofs.Cases.{true_false, some_same, plan_case}
 use Rattle.law_growth.proofs.NodesStay.{step_goes}
 use Rattle.law_hosts.specs.Ledger as ledgers
 use Rattle.law_hosts.specs.Hosts as hosts
@@ -39,10 +39,10 @@ use Rattle.law_hosts.proofs.Matched.{system_of}
 use Rattle.law_hosts.proofs.Folds.{acts_count}
 use Rattle.law_hosts.proofs.Applied.{SoFar, Stands, Serves, after_serves, serves_matched, serves_facts, out_committed, step_so_far, new_so_far}
 use Rattle.law_items.specs.Ordered as laws
-use Rattle.law_items.proofs.Rules.{IfRead, reached_none, read_term}
+use Rattle.law_items.proofs.Rules.{IfRead, reached_none, read_term, read_commit}
 use Rattle.law_items.proofs.Tasks.{IfReads, task_reads}
 use Rattle.law_items.proofs.Quiet.{AllQuiet, PlanQuiet, plan_quiet, with_shown}
-use Rattle.law_items.proofs.Below.{below, each_append, below_append, greatest_below, Shows, shows_quiet, leader_part, commit_part, Reached, IfReached, reach_part}
+use Rattle.law_items.proofs.Below.{below, each_append, below_append, greatest_below, Covers, covers_at, Shows, shows_quiet, leader_part, commit_part, Reached, IfReached, reach_part}
 use Rattle.law_items.proofs.Leads.{WasLed, AreLed, input_leds, input_takens, carried_led, new_led}
 
 -- what the laws of Raft say of the ledger
@@ -62,27 +62,28 @@ not_reached : (k : ℕ) (n a : raft_nodes.Node) (read : Option Held) (r : Option
 not_reached k n a read r places above takens e = subst (λ o. IfReached k n a read o places above takens) (sym e) tt
 
 is_reached : (k : ℕ) (n a : raft_nodes.Node) (read : Option Held) (r : Option ℕ) (places : ℕ) (above : List Item) (takens : List clusters.ReadTaken) → a.ballot ≡ n.ballot → n.ballot.me ≡ k → ((h : Held) × (read ≡ Some h))
-    → transcripts.StandsIn (item.Leader k n.ballot.term) above → Numbered (takens ++ clusters.taken_by k n places r) n.ballot.term → IfReached k n a read r places above takens
-is_reached k n a read None places above takens same me held lead numbered = tt
-is_reached k n a read (Some arrival) places above takens same me held lead numbered = record {
+    → transcripts.StandsIn (item.Leader k n.ballot.term) above → transcripts.greatest_commit above ≤ places → Numbered (takens ++ clusters.taken_by k n places r) n.ballot.term → IfReached k n a read r places above takens
+is_reached k n a read None places above takens same me held lead covered numbered = tt
+is_reached k n a read (Some arrival) places above takens same me held lead covered numbered = record {
   held = held.0;
   is_read = held.1;
   me = ap (λ b. b.me) same ∙ me;
   term = ap (λ b. b.term) same;
   leader = subst (λ t. transcripts.StandsIn (item.Leader k t) above) (sym (ap (λ b. b.term) same)) lead;
+  covered = covered;
   numbered = numbered;
 }
 
 reaching : (k : ℕ) (x : servers.Server) (o : Option RaftInput) (read : Option Held) (places : ℕ) (above : List Item) (takens : List clusters.ReadTaken) → x.raft.ballot.me ≡ k → IfReads x o read
-    → (servers.leads x ≡ true → transcripts.StandsIn (item.Leader k x.raft.ballot.term) above) → Numbered (takens ++ clusters.taken_by k x.raft places (server_steps.raft_out x.raft o).reached) x.raft.ballot.term
+    → (servers.leads x ≡ true → transcripts.StandsIn (item.Leader k x.raft.ballot.term) above) → (x.raft.commit ≡ (server_steps.raft_after x.raft o).commit → transcripts.greatest_commit above ≤ places) → Numbered (takens ++ clusters.taken_by k x.raft places (server_steps.raft_out x.raft o).reached) x.raft.ballot.term
     → IfReached k x.raft (server_steps.raft_after x.raft o) read (server_steps.raft_out x.raft o).reached places above takens
-reaching k x None read places above takens me r lead numbered = tt
-reaching k x (Some (input.Elect clock)) read places above takens me r lead numbered = not_reached k x.raft (node_steps.stepped x.raft (input.Elect clock)) read (node_steps.did x.raft (input.Elect clock)).reached places above takens (reached_none x.raft (input.Elect clock))
-reaching k x (Some input.Beat) read places above takens me r lead numbered = tt
-reaching k x (Some (input.Append clock bodies)) read places above takens me r lead numbered = tt
-reaching k x (Some input.Read) read places above takens me r lead numbered =
-    is_reached k x.raft (node_steps.stepped x.raft input.Read) read (node_steps.did x.raft input.Read).reached places above takens (read_term x.raft) me r.1 (lead r.0) numbered
-reaching k x (Some (input.Message a clock p)) read places above takens me r lead numbered =
+reaching k x None read places above takens me r lead covered numbered = tt
+reaching k x (Some (input.Elect clock)) read places above takens me r lead covered numbered = not_reached k x.raft (node_steps.stepped x.raft (input.Elect clock)) read (node_steps.did x.raft (input.Elect clock)).reached places above takens (reached_none x.raft (input.Elect clock))
+reaching k x (Some input.Beat) read places above takens me r lead covered numbered = tt
+reaching k x (Some (input.Append clock bodies)) read places above takens me r lead covered numbered = tt
+reaching k x (Some input.Read) read places above takens me r lead covered numbered =
+    is_reached k x.raft (node_steps.stepped x.raft input.Read) read (node_steps.did x.raft input.Read).reached places above takens (read_term x.raft) me r.1 (lead r.0) (covered (sym (read_commit x.raft))) numbered
+reaching k x (Some (input.Message a clock p)) read places above takens me r lead covered numbered =
     not_reached k x.raft (node_steps.stepped x.raft (input.Message a clock p)) read (node_steps.did x.raft (input.Message a clock p)).reached places above takens (reached_none x.raft (input.Message a clock p))
 
 -- how many places are committed then
@@ -91,11 +92,11 @@ counts timeout old new h i s =
     let c : length new ≡ length old + length s.begins.0 = ap length s.begins.1 ∙ length-append old s.begins.0 in
     elim s.reached [ inl e ↦ (let f : length new ≡ length old = ap length e in let g = s.holds.within in omega (arith, f, g)) | inr e ↦ omega (arith, e, c) ]
 
-abbrev Part : ledgers.Ledger → ℕ → List Item → List Item → Type 0
+abbrev pub Part : ledgers.Ledger → ℕ → List Item → List Item → Type 0
 Part l places above items = transcripts.EachBelow laws.IsInOrder above items × Shows l.leds l.takens places (below above items)
 
 -- a server's step
-serves_shows : (n clients time : ℕ) (l : ledgers.Ledger) (w v : worlds.World) (k : ℕ) (h : worlds.Host) (i : ServerInput) (above : List Item) → SoFar n clients time l w → AreLed l.leds w → Shows l.leds l.takens (length l.committed) above
+pub serves_shows : (n clients time : ℕ) (l : ledgers.Ledger) (w v : worlds.World) (k : ℕ) (h : worlds.Host) (i : ServerInput) (above : List Item) → SoFar n clients time l w → AreLed l.leds w → Shows l.leds l.takens (length l.committed) above
     → plan_cases.IsAlike w v → lists.at_place w.hosts k ≡ Some h → h.is_up ≡ true → plan_cases.IsInputOf w k h i
     → let new = ledgers.with_input l k h.server.raft (servers.task h.server i).input in Part new (length new.committed) above (moves.server_items v k (server_steps.server_out h.server i))
 serves_shows n clients time l w v k h i above f leads s a at up known =
@@ -119,9 +120,10 @@ serves_shows n clients time l w v k h i above f leads s a at up known =
     (λ b. let d = leads k h at up b in
     subst (λ j. transcripts.StandsIn (item.Leader j x.ballot.term) (below (below above first) second)) d.node
     (subst (λ u. transcripts.StandsIn (item.Leader d.led.node u) (below (below above first) second)) d.term (two.1.told d.place d.led (stays_at l.leds (clusters.led_by k y out.led) d.place d.led d.found)))) in
+    let covered : x.commit ≡ y.commit → transcripts.greatest_commit (below (below above first) second) ≤ places = (λ e. let b = (f.stands.hosts k h at).within in let c = two.1.commits in omega (arith, e, b, c)) in
     let number : staying.HasNumber (length w.hosts) k x = f.numbers.numbers.hosts k h at in
     let three = reach_part leds l.takens (max places y.commit) (below (below above first) second) k places x y t.read out.reached two.1
-    (reaching k h.server o t.read places (below (below above first) second) l.takens number.me (task_reads h.server i) lead (subst (λ ts. Numbered ts x.ballot.term) (input_takens l k x o) (takens_numbered n (λ j. 0) new (after_serves v k h i) m x.ballot.term))) in
+    (reaching k h.server o t.read places (below (below above first) second) l.takens number.me (task_reads h.server i) lead covered (subst (λ ts. Numbered ts x.ballot.term) (input_takens l k x o) (takens_numbered n (λ j. 0) new (after_serves v k h i) m x.ballot.term))) in
     let all : transcripts.EachBelow laws.IsInOrder above (first ++ second ++ third) =
     each_append laws.IsInOrder above (first ++ second) third (each_append laws.IsInOrder above first second one.0 two.0) (subst (λ xs. transcripts.EachBelow laws.IsInOrder xs third) (sym (below_append above first second)) three.0) in
     let after : below above (first ++ second ++ third) ≡ below (below (below above first) second) third = below_append above (first ++ second) third ∙ ap (λ xs. below xs third) (below_append above first second) in
@@ -137,7 +139,7 @@ serves_shows n clients time l w v k h i above f leads s a at up known =
     (subst (λ c. Part new (length new.committed) above (first ++ moves.commit_item places c ++ third)) (sym committed) (all, shown))
 
 -- each step
-carried_shows : (n clients time : ℕ) (l : ledgers.Ledger) (w : worlds.World) (p : plans.Plan) (o : StepOutcome) (above : List Item) → plan_cases.IsCase w p → PlanQuiet p → SoFar n clients time l w → AreLed l.leds w → Shows l.leds l.takens (length l.committed) above
+pub carried_shows : (n clients time : ℕ) (l : ledgers.Ledger) (w : worlds.World) (p : plans.Plan) (o : StepOutcome) (above : List Item) → plan_cases.IsCase w p → PlanQuiet p → SoFar n clients time l w → AreLed l.leds w → Shows l.leds l.takens (length l.committed) above
     → Part (ledgers.ledger_in l p o) (length (ledgers.ledger_in l p o).committed) above (moves.carried p o).items
 carried_shows n clients time l w p o above (plan_cases.Serving v k h i a at up known e) q f leads s = subst (λ x. Part (ledgers.ledger_in l x o) (length (ledgers.ledger_in l x o).committed) above (moves.carried x o).items) (sym e) (served o)
   where
@@ -159,6 +161,56 @@ carried_shows n clients time l w p o above (plan_cases.Seating c x t items at me
     (shows_quiet l.leds l.takens (length l.committed) above items (subst PlanQuiet e q) s)
 carried_shows n clients time l w p o above (plan_cases.Showing v items a e) q f leads s = subst (λ x. Part (ledgers.ledger_in l x o) (length (ledgers.ledger_in l x o).committed) above (moves.carried x o).items) (sym e)
     (shows_quiet l.leds l.takens (length l.committed) above items (subst PlanQuiet e q) s)
+
+-- reads that are ready
+is_given : {X : Type 0} (xs ys : List X) → AllByRecursion (λ y. (i : ℕ) × (lists.at_place (xs ++ ys) i ≡ Some y)) ys
+is_given xs [] = tt
+is_given {X = X} xs (y ∷ ys) = (
+  (suc (length xs), subst (λ zs. lists.at_place zs (suc (length xs)) ≡ Some y) (append_assoc xs (y ∷ []) ys) (stays_at (xs ++ y ∷ []) ys (suc (length xs)) y (last_at xs y))),
+  subst (λ zs. AllByRecursion (λ (z : X). (i : ℕ) × (lists.at_place zs i ≡ Some z)) ys) (append_assoc xs (y ∷ []) ys) (is_given (xs ++ y ∷ []) ys),
+)
+
+all_back : {X Y : Type 0} (P : Y → Type 0) (f : X → Y) (xs : List X) → AllByRecursion P (map f xs) → AllByRecursion (λ x. P (f x)) xs
+all_back P f [] h = tt
+all_back P f (x ∷ xs) h = (h.0, all_back P f xs h.1)
+
+all_since : {X : Type 0} (P R : X → Type 0) → ((x : X) → P x → R x) → (xs : List X) → AllByRecursion P xs → AllByRecursion R xs
+all_since P R f [] h = tt
+all_since P R f (x ∷ xs) h = (f x h.0, all_since P R f xs h.1)
+
+input_givens : (l : ledgers.Ledger) (k : ℕ) (n : raft_nodes.Node) (o : Option RaftInput) → (ledgers.with_input l k n o).givens ≡ l.givens ++ clusters.given_by k (server_steps.raft_after n o) (server_steps.raft_out n o).reads
+input_givens l k n None = sym (append-nil l.givens)
+input_givens l k n (Some i) = refl
+
+given_covers : (n : ℕ) (l : ledgers.Ledger) (w : worlds.World) (m : hosts.IsMatched n (λ j. 0) l w) (places node : ℕ) (g : clusters.ReadGiven) (i : ℕ) (above : List Item) → Shows l.leds l.takens places above → lists.at_place l.givens i ≡ Some g
+    → laws.IsCovered above node g.term (g.arrival, g.place)
+given_covers n l w m places node g i above s at session number later earlier e =
+    let service = has_service n m.list m.may in
+    let sees : reads.SeesCommitted l.takens g = subst (λ ts. reads.SeesCommitted ts g) m.ends.takens (service.serves.givens i g (ap (λ gs. lists.at_place gs i) m.ends.givens ∙ at)) in
+    let t = covers_at l.takens later (item.Reach node g.term g.arrival session number) earlier (subst (Covers l.takens) e s.covers) in
+    let once = service.serves.once t.place sees.position t.taken sees.taken (ap (λ ts. lists.at_place ts t.place) m.ends.takens ∙ t.found) (ap (λ ts. lists.at_place ts sees.position) m.ends.takens ∙ sees.is_there) (t.term ∙ sym sees.term) (t.arrival ∙ sym sees.arrival) in
+    let same : t.taken ≡ sees.taken = some_same t.taken sees.taken (sym t.found ∙ ap (lists.at_place l.takens) once ∙ sees.is_there) in
+    let a = t.covers in let b = sees.fresh in let c : t.taken.committed ≡ sees.taken.committed = ap (λ (x : clusters.ReadTaken). x.committed) same in
+    omega (arith, a, b, c)
+
+-- of a server's step, with the items after it
+pub reads_covered : (n clients time : ℕ) (l : ledgers.Ledger) (w v : worlds.World) (k : ℕ) (h : worlds.Host) (i : ServerInput) (above : List Item) → SoFar n clients time l w → AreLed l.leds w → Shows l.leds l.takens (length l.committed) above
+    → plan_cases.IsAlike w v → lists.at_place w.hosts k ≡ Some h → h.is_up ≡ true → plan_cases.IsInputOf w k h i
+    → AllByRecursion (laws.IsCovered (below above (moves.server_items v k (server_steps.server_out h.server i))) (server_steps.server_after h.server i).raft.ballot.me (server_steps.server_after h.server i).raft.ballot.term) (server_steps.raft_out h.server.raft (servers.task h.server i).input).reads
+reads_covered n clients time l w v k h i above f leads s a at up known =
+    let o : Option RaftInput = (servers.task h.server i).input in
+    let y : raft_nodes.Node = server_steps.raft_after h.server.raft o in
+    let ready : List (ℕ × ℕ) = (server_steps.raft_out h.server.raft o).reads in
+    let new : ledgers.Ledger = ledgers.with_input l k h.server.raft o in
+    let m : hosts.IsMatched n (λ j. 0) new (after_serves v k h i) = serves_matched n l w v k h i f.matched a at up known in
+    let after : List Item = below above (moves.server_items v k (server_steps.server_out h.server i)) in
+    let shown = (serves_shows n clients time l w v k h i above f leads s a at up known).1 in
+    let given : (ℕ × ℕ) → clusters.ReadGiven = (λ r. record { node = k; term = y.ballot.term; arrival = r.0; place = r.1 }) in
+    let there : AllByRecursion (λ (g : clusters.ReadGiven). (j : ℕ) × (lists.at_place new.givens j ≡ Some g)) (map given ready) =
+    subst (λ gs. AllByRecursion (λ (g : clusters.ReadGiven). (j : ℕ) × (lists.at_place gs j ≡ Some g)) (map given ready)) (sym (input_givens l k h.server.raft o)) (is_given l.givens (map given ready)) in
+    all_since (λ r. (j : ℕ) × (lists.at_place new.givens j ≡ Some (given r))) (laws.IsCovered after y.ballot.me y.ballot.term)
+    (λ r p. given_covers n new (after_serves v k h i) m (length new.committed) y.ballot.me (given r) p.0 after shown p.1) ready
+    (all_back (λ (g : clusters.ReadGiven). (j : ℕ) × (lists.at_place new.givens j ≡ Some g)) given ready there)
 
 pub record RunShows (l : ledgers.Ledger) (w : worlds.World) (above : List Item) (shown : List transcripts.Shown) : Type 0 where
   pub ordered : transcripts.EachBelow laws.IsInOrder above (transcripts.transcript shown)
@@ -182,7 +234,7 @@ ran_shows n clients time l w (k ∷ steps) above f leads s =
 run_shows : (n clients time : ℕ) (steps : List KeptStep) → RunShows (ledgers.ledger_of n clients time steps) (runs.run n clients time steps).world [] (runs.run n clients time steps).shown
 run_shows n clients time steps =
     ran_shows n clients time ledgers.new_ledger (worlds.new_world n clients time) steps [] (new_so_far n clients time) (new_led [] n clients time)
-    (record { commits = refl; leaders = λ t. refl; told = λ i d e. absurd (nowhere i d e); reaches = λ t. refl })
+    (record { commits = refl; leaders = λ t. refl; told = λ i d e. absurd (nowhere i d e); reaches = λ t. refl; covers = tt })
   where
     nowhere : (i : ℕ) (d : clusters.Led) → lists.at_place [] i ≡ Some d → ⊥
     nowhere zero d e = cc (e)

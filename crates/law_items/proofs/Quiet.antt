@@ -1,6 +1,6 @@
 -- Items that are of no node: those of clients, of the network, of halts and skips.
 use Rattle.std.proofs.Common.{◌≡◌, ℕ, List, [], ◌∷◌, ◌++◌, map, take, refl}
-use Rattle.std.specs.Prelude.{Bool, true, false, ◌&&◌, Option, Some, None, is_some, flat_map, filter, if◌then◌else◌}
+use Rattle.std.specs.Prelude.{◌≤◌, Bool, true, false, ◌&&◌, Option, Some, None, is_some, flat_map, filter, if◌then◌else◌}
 use Rattle.std.specs.List.{AllByRecursion, list_any}
 use Rattle.ax_types.specs.Places as lists
 use Rattle.ax_types.specs.declared.entries.Batch.{Batch}
@@ -29,6 +29,7 @@ use Rattle.spec_claims.specs.Transcript as transcripts
 use Rattle.spec_claims.specs.Right as claims_right
 use Rattle.spec_claims.specs.Heard as claims_heard
 use Rattle.spec_cluster.specs.Bag as bags
+use Rattle.spec_cluster.specs.Cluster as clusters
 use Rattle.spec_sequencer.specs.Sequencers as sequencers
 use Rattle.spec_server.specs.Servers as servers
 use Rattle.spec_client.specs.Clients as clients
@@ -46,32 +47,46 @@ IsQuiet x = laws.is_of_nodes x ≡ false
 abbrev pub AllQuiet : List Item → Type 0
 AllQuiet items = AllByRecursion IsQuiet items
 
+-- a read that was reached is one of those taken, when so many places were committed as the items above it say
+pub record WasTaken (takens : List clusters.ReadTaken) (t a : ℕ) (above : List Item) : Type 0 where
+  pub place : ℕ
+  pub taken : clusters.ReadTaken
+  pub found : lists.at_place takens place ≡ Some taken
+  pub term : taken.term ≡ t
+  pub arrival : taken.arrival ≡ a
+  pub covers : transcripts.greatest_commit above ≤ taken.committed
+
+abbrev pub CoversItem : List clusters.ReadTaken → Item → List Item → Type 0
+CoversItem takens (item.Reach k t a s n) above = WasTaken takens t a above
+CoversItem takens x above = Unit {0}
+
 -- such an item counts for nothing
 pub record Counts (x : Item) : Type 0 where
   pub commit : (xs : List Item) → transcripts.greatest_commit (x ∷ xs) ≡ transcripts.greatest_commit xs
   pub leader : (t : ℕ) → claims_right.is_leader_in t x ≡ false
   pub reach : (t : ℕ) → claims_right.is_reach_in t x ≡ false
   pub order : (xs : List Item) → laws.IsInOrder xs x
+  pub cover : (takens : List clusters.ReadTaken) (xs : List Item) → CoversItem takens x xs
 
 pub quiet : (x : Item) → IsQuiet x → Counts x
 quiet (item.Leader xa xb) e = true_false e
 quiet (item.Commit xa) e = true_false e
 quiet (item.Reach xa xb xc xd xe) e = true_false e
-quiet (item.Halted xa) e = record { commit = λ xs. refl; leader = λ t. refl; reach = λ t. refl; order = λ xs. tt }
-quiet (item.Opened xa xb) e = record { commit = λ xs. refl; leader = λ t. refl; reach = λ t. refl; order = λ xs. tt }
-quiet (item.Called xa xb xc) e = record { commit = λ xs. refl; leader = λ t. refl; reach = λ t. refl; order = λ xs. tt }
-quiet (item.Event xa xb xc xd) e = record { commit = λ xs. refl; leader = λ t. refl; reach = λ t. refl; order = λ xs. tt }
-quiet (item.Watched xa xb xc xd xe) e = record { commit = λ xs. refl; leader = λ t. refl; reach = λ t. refl; order = λ xs. tt }
-quiet (item.Reply xa xb xc xd) e = record { commit = λ xs. refl; leader = λ t. refl; reach = λ t. refl; order = λ xs. tt }
-quiet (item.Read xa xb xc xd xe xf) e = record { commit = λ xs. refl; leader = λ t. refl; reach = λ t. refl; order = λ xs. tt }
-quiet (item.Ended xa xb xc) e = record { commit = λ xs. refl; leader = λ t. refl; reach = λ t. refl; order = λ xs. tt }
-quiet (item.Doubt xa xb) e = record { commit = λ xs. refl; leader = λ t. refl; reach = λ t. refl; order = λ xs. tt }
-quiet (item.Lost xa xb) e = record { commit = λ xs. refl; leader = λ t. refl; reach = λ t. refl; order = λ xs. tt }
-quiet (item.Unsent xa xb) e = record { commit = λ xs. refl; leader = λ t. refl; reach = λ t. refl; order = λ xs. tt }
-quiet (item.Unanswered xa xb) e = record { commit = λ xs. refl; leader = λ t. refl; reach = λ t. refl; order = λ xs. tt }
-quiet (item.Listed xa) e = record { commit = λ xs. refl; leader = λ t. refl; reach = λ t. refl; order = λ xs. tt }
-quiet (item.Pending xa xb xc xd) e = record { commit = λ xs. refl; leader = λ t. refl; reach = λ t. refl; order = λ xs. tt }
-quiet (item.Skip xa) e = record { commit = λ xs. refl; leader = λ t. refl; reach = λ t. refl; order = λ xs. tt }
+quiet (item.Halted xa) e = record { commit = λ xs. refl; leader = λ t. refl; reach = λ t. refl; order = λ xs. tt; cover = λ ts xs. tt }
+quiet (item.Opened xa xb) e = record { commit = λ xs. refl; leader = λ t. refl; reach = λ t. refl; order = λ xs. tt; cover = λ ts xs. tt }
+quiet (item.Called xa xb xc) e = record { commit = λ xs. refl; leader = λ t. refl; reach = λ t. refl; order = λ xs. tt; cover = λ ts xs. tt }
+quiet (item.Event xa xb xc xd) e = record { commit = λ xs. refl; leader = λ t. refl; reach = λ t. refl; order = λ xs. tt; cover = λ ts xs. tt }
+quiet (item.Watched xa xb xc xd xe) e = record { commit = λ xs. refl; leader = λ t. refl; reach = λ t. refl; order = λ xs. tt; cover = λ ts xs. tt }
+quiet (item.Reply xa xb xc xd) e = record { commit = λ xs. refl; leader = λ t. refl; reach = λ t. refl; order = λ xs. tt; cover = λ ts xs. tt }
+quiet (item.Read xa xb xc xd xe xf) e = record { commit = λ xs. refl; leader = λ t. refl; reach = λ t. refl; order = λ xs. tt; cover = λ ts xs. tt }
+quiet (item.Ended xa xb xc) e = record { commit = λ xs. refl; leader = λ t. refl; reach = λ t. refl; order = λ xs. tt; cover = λ ts xs. tt }
+quiet (item.Doubt xa xb) e = record { commit = λ xs. refl; leader = λ t. refl; reach = λ t. refl; order = λ xs. tt; cover = λ ts xs. tt }
+quiet (item.Lost xa xb) e = record { commit = λ xs. refl; leader = λ t. refl; reach = λ t. refl; order = λ xs. tt; cover = λ ts xs. tt }
+quiet (item.Unsent xa xb) e = record { commit = λ xs. refl; leader = λ t. refl; reach = λ t. refl; order = λ xs. tt; cover = λ ts xs. tt }
+quiet (item.Unanswered xa xb) e = record { commit = λ xs. refl; leader = λ t. refl; reach = λ t. refl; order = λ xs. tt; cover = λ ts xs. tt }
+quiet (item.Listed xa) e = record { commit = λ xs. refl; leader = λ t. refl; reach = λ t. refl; order = λ xs. tt; cover = λ ts xs. tt }
+quiet (item.Pending xa xb xc xd) e = record { commit = λ xs. refl; leader = λ t. refl; reach = λ t. refl; order = λ xs. tt; cover = λ ts xs. tt }
+quiet (item.Skip xa) e = record { commit = λ xs. refl; leader = λ t. refl; reach = λ t. refl; order = λ xs. tt; cover = λ ts xs. tt }
 
 all_append : (xs ys : List Item) → AllQuiet xs → AllQuiet ys → AllQuiet (xs ++ ys)
 all_append [] ys h k = k

@@ -134,3 +134,6 @@ reached_none n (input.Message from clock p) = (heeded n from clock p).reached
 
 pub read_term : (n : nodes.Node) → (nodes.read_arrived n).node.ballot ≡ n.ballot
 read_term n = by_test (λ d. d.node.ballot ≡ n.ballot) (progress.has_read_room n.leading.reads) (record (nodes.nothing_done (nodes.read_taken n)) { reached = Some (suc n.leading.arrivals) }) (nodes.nothing_done n) (λ e. refl) (λ e. refl)
+
+pub read_commit : (n : nodes.Node) → (nodes.read_arrived n).node.commit ≡ n.commit
+read_commit n = by_test (λ d. d.node.commit ≡ n.commit) (progress.has_read_room n.leading.reads) (record (nodes.nothing_done (nodes.read_taken n)) { reached = Some (suc n.leading.arrivals) }) (nodes.nothing_done n) (λ e. refl) (λ e. refl)

@@ -1,5 +1,5 @@
 -- The items of nodes, in their order.
-use Rattle.std.specs.Prelude.{ℕ, ◌≡◌, ◌<◌, ◌+◌, Bool, true, false, List, length, count_by}
+use Rattle.std.specs.Prelude.{ℕ, ◌≡◌, ◌<◌, ◌≤◌, ◌+◌, Bool, true, false, List, ◌∷◌, ◌++◌, length, count_by}
 use Rattle.ax_types.specs.declared.items.Item.{Item}
 use Rattle.ax_types.specs.declared.items.Item.TheVariants as item
 use Rattle.ax_types.specs.declared.steps.KeptStep.{KeptStep}
@@ -23,6 +23,10 @@ is_of_nodes x = false
 
 abbrev pub NodeItemsAreOrdered : Type 0
 NodeItemsAreOrdered = (nodes clients timeout : ℕ) (steps : List KeptStep) → transcripts.EachItem IsInOrder (transcripts.transcript (runs.run nodes clients timeout steps).shown)
+
+-- the place of a read that is ready is at least each commit above its arrival at this node in this term
+abbrev pub IsCovered : List Item → ℕ → ℕ → ℕ × ℕ → Type 0
+IsCovered items node term r = (s n : ℕ) (later earlier : List Item) → items ≡ later ++ item.Reach node term r.0 s n ∷ earlier → transcripts.greatest_commit earlier ≤ r.1
 
 abbrev pub HistoryIsCounted : Type 0
 HistoryIsCounted = (nodes clients timeout : ℕ) (steps : List KeptStep)

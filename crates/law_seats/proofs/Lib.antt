@@ -1,0 +1,3 @@
+pub mod Unwatched
+pub mod Effects
+pub mod Seats

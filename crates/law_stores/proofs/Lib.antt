@@ -1,0 +1,4 @@
+pub mod Settled
+pub mod Contents
+pub mod Newest
+pub mod Held
