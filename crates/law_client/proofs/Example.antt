@@ -25,7 +25,7 @@ example_may_happen =
                     tt,
                     (
                       (record { name = 99 ∷ []; query = query.Long long_query.Get; called = inr (inl refl); within = within; live = refl; behind = behind; last_event = refl; answer = refl; reached = tt }, tt),
-                      (((refl, refl, refl), tt), (((refl, refl, refl), tt), (tt, (tt, ((refl, inl refl), (tt, (tt, tt))))))),
+                      (((refl, refl, refl), tt), (((refl, refl, refl), tt), (tt, (tt, ((refl, λ e. inl refl), (tt, (tt, tt))))))),
                     ),
                   ),
                 ),

@@ -611,12 +611,12 @@ closed_none h c above s own ends (inl e) = (subst (standing.OwnStands h c above)
 closed_none h c above s own ends (inr (p, way, a)) = absurd (end_counts s p way above a ends)
 
 ends_step : (h : histories.History) (c : clients.Client) (above : List Item) (s place : ℕ) (way : How) → (o : standing.IsOwn h c above s) → standing.EndsAbove s above 0 → standing.OwnStands h c above c.state
-    → inputs.IsAskedEnd (seat_of c above) (payload.Ended s place way)
+    → clients.own_session c.state ≡ s → inputs.IsAskedEnd (seat_of c above) (payload.Ended s place way)
     → outcome_order.EndsStep above (item.Ended s place way ∷ map (receipts.outcome_at_end s) c.sequencer.calls)
-ends_step h c above s place how.Expired o ends own asked =
+ends_step h c above s place how.Expired o ends own mine asked =
     all_doubted h above s o.done c.sequencer.calls c.requests o.asked ∙ ap (λ cs. map (outcome_order.doubted s) cs) (sym o.waiting)
-ends_step h c above s place how.Closed o ends own asked =
-    let none : c.requests ≡ [] = closed_none h c above s own ends asked in
+ends_step h c above s place how.Closed o ends own mine asked =
+    let none : c.requests ≡ [] = closed_none h c above s own ends (asked mine) in
     let no_more : c.sequencer.calls ≡ [] = no_calls h above s o.done c.sequencer.calls c.requests o.asked none in (
       o.waiting ∙ ap (λ rs. map standing.asked_call rs) none,
       subst (λ us. outcome_order.EndsStep (item.Ended s place how.Closed ∷ above) (map (receipts.outcome_at_end s) us)) (sym no_more) tt,
@@ -641,7 +641,7 @@ ended_keeps h c above session place way k is asked own_it =
     shows h c d above (x ∷ items) session [] k refl (next_low c) (omega arith) last (refl, ends_mine session c.sequencer.calls)
     (last, subst (λ ys. standing.EndsAbove session ys 1) back e.ends, refl)
     (ended_claimed h c above session place way j.own j.ends is, e.claimed)
-    (ends_step h c above session place way j.own j.ends k.own asked)
+    (ends_step h c above session place way j.own j.ends k.own (sym p.1) asked)
 
 -- a payload that is true
 pub receives_keeps : (h : histories.History) (c : clients.Client) (above : List Item) (node : ℕ) (p : Payload) → standing.Stands h (seat_of c above) → payloads.IsTruePayload above h c.me p → inputs.IsAskedEnd (seat_of c above) p

@@ -100,9 +100,9 @@ IsOfOthers me h (Some s) = IsOthers me h s
 abbrev pub HasClosed : Seat → ℕ → Type 0
 HasClosed seat s = (seat.client.state ≡ state.Closing s) ⊎ ((p : ℕ) × (h : How) × transcripts.StandsIn (item.Ended s p h) seat.above)
 
--- the end of a session by a close is told only where the client has asked for it
+-- the end of the client's session by a close is told only where the client has asked for it
 abbrev pub IsAskedEnd : Seat → Payload → Type 0
-IsAskedEnd seat (payload.Ended s p how.Closed) = HasClosed seat s
+IsAskedEnd seat (payload.Ended s p how.Closed) = clients.own_session seat.client.state ≡ s → HasClosed seat s
 IsAskedEnd seat p = Unit {0}
 
 -- a payload may reach the client where what it tells is true by then

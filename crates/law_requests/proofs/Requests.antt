@@ -363,11 +363,11 @@ says_more h seat d ys (payload.Query c s n l seen seq name q) k me le closes say
     (f, query_more s n l seq name q ys seat.above (k.numbered s f.opened.opening f.opened.opened) says.1)
 says_more h seat d ys p k me le closes says = absurd says
 
-pub requests_stay : requests.RequestsStay
-requests_stay h seat (inputs.Does i) p k m says =
+pub said_stays_said : requests.SaidStaysSaid
+said_stays_said h seat (inputs.Does i) p k m says =
     let s : promises.StepKeeps h seat (inputs.Does i) = each_step_keeps h seat (inputs.Does i) k m in
     let next = inputs.client_stepped seat.client i in
     says_more h seat next.client (reverse next.out.items) p s.stands s.me (input_grows seat.client i) (λ u closed. closes_stay seat (inputs.Does i) u closed) says
-requests_stay h seat (inputs.Sees x) p k m says =
+said_stays_said h seat (inputs.Sees x) p k m says =
     let s : promises.StepKeeps h seat (inputs.Sees x) = each_step_keeps h seat (inputs.Sees x) k m in
     says_more h seat seat.client (x ∷ []) p s.stands refl (omega arith) (λ u closed. closes_stay seat (inputs.Sees x) u closed) says

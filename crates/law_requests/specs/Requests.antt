@@ -63,8 +63,8 @@ abbrev pub EachRequestSays : Type 0
 EachRequestSays = promises.AlwaysAtClient (λ h me xs. EachSays h (inputs.new_seat me) xs)
 
 -- what a request says stays so
-abbrev pub RequestsStay : Type 0
-RequestsStay = (h : histories.History) (seat : inputs.Seat) (x : inputs.Happening) (p : Payload) → standing.Stands h seat → inputs.MayHappen h seat x
+abbrev pub SaidStaysSaid : Type 0
+SaidStaysSaid = (h : histories.History) (seat : inputs.Seat) (x : inputs.Happening) (p : Payload) → standing.Stands h seat → inputs.MayHappen h seat x
     → RequestSays h seat p → RequestSays h (inputs.seat_after seat x) p
 
 -- a close that was asked for stays so

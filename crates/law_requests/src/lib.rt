@@ -15,8 +15,8 @@ pub fn each_request_says()
 {}
 
 /// What a request says stays so, whatever happens at the client.
-pub fn requests_stay()
-    ensures { requests.RequestsStay }
+pub fn said_stays_said()
+    ensures { requests.SaidStaysSaid }
 {}
 
 /// A close that was asked for stays so: the client waits for the end, or the end is told.

@@ -1,6 +1,6 @@
 -- What a step does at the seats: nothing, one input of one client, or one more watch.
 use Rattle.std.proofs.Common.{◌≡◌, ℕ, zero, suc, List, [], ◌∷◌, ◌++◌, map, length, take, refl, ap, sym, ◌∙◌, subst, inl, inr}
-use Rattle.std.specs.Prelude.{Bool, true, false, ◌-◌, slice_get, nat_lt, Option, Some, None, if◌then◌else◌}
+use Rattle.std.specs.Prelude.{Bool, true, ◌-◌, slice_get, nat_lt, Option, Some, None, if◌then◌else◌}
 use Rattle.std.specs.List.{AllByRecursion, list_any}
 use Rattle.ax_types.specs.Places as lists
 use Rattle.ax_types.specs.declared.ids.End.{End}
@@ -10,11 +10,9 @@ use Rattle.ax_types.specs.declared.items.Item.TheVariants as item
 use Rattle.ax_types.specs.declared.items.SkipReason.{SkipReason}
 use Rattle.ax_types.specs.declared.items.SkipReason.TheVariants as reason
 use Rattle.ax_types.specs.declared.packets.Packet.{Packet}
-use Rattle.ax_types.specs.declared.packets.Payload.{Payload}
 use Rattle.ax_types.specs.declared.sessions.Held.{Held}
 use Rattle.ax_types.specs.declared.sessions.ServerInput.{ServerInput}
 use Rattle.ax_types.specs.declared.sessions.ServerInput.TheVariants as input
-use Rattle.ax_types.specs.declared.sessions.ServerOut.{ServerOut}
 use Rattle.ax_types.specs.declared.steps.KeptStep.{KeptStep}
 use Rattle.ax_types.specs.declared.steps.Step.{Step}
 use Rattle.ax_types.specs.declared.steps.Step.TheVariants as step
@@ -27,7 +25,6 @@ use Rattle.spec_cluster.specs.Bag as bags
 use Rattle.spec_server.specs.Servers as servers
 use Rattle.spec_server.specs.ServerStep as server_steps
 use Rattle.spec_client.specs.Clients as clients
-use Rattle.spec_client.specs.Receipts as receipts
 use Rattle.spec_world.specs.Worlds as worlds
 use Rattle.spec_world.specs.Plans as plans
 use Rattle.spec_world.specs.Moves as moves
@@ -179,6 +176,7 @@ among_at bag number s e = at_among bag.kept (number - bags.gone bag) e
     get_among [] k f = absurd (cc)
     get_among (x ∷ xs) zero f = inl (ap (λ (y : bags.KeptPacket). y.packet) (some_same x s f))
     get_among (x ∷ xs) (suc k) f = inr (get_among xs k f)
+
     at_among : (xs : List bags.KeptPacket) (k : ℕ) → lists.at_place xs k ≡ Some s → IsAmong s.packet (map (λ (x : bags.KeptPacket). x.packet) xs)
     at_among xs zero f = absurd (cc)
     at_among xs (suc k) f = get_among xs k f

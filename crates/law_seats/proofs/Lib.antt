@@ -1,3 +1,4 @@
 pub mod Unwatched
 pub mod Effects
 pub mod Seats
+pub mod Runs

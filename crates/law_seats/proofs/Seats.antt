@@ -1,20 +1,13 @@
 -- Each step keeps how the clients stand.
-use Rattle.std.proofs.Common.{◌≡◌, ℕ, zero, suc, ◌+◌, ◌≤◌, List, [], ◌∷◌, ◌++◌, map, reverse, filter, flat_map, refl, ap, sym, ◌∙◌, subst, inl, inr, ⊎_elim, arith, append-nil, append_assoc}
-use Rattle.std.specs.Prelude.{◌⊎◌, Bool, true, false, not, nat_eq, Option, Some, None, option_map, if◌then◌else◌}
+use Rattle.std.proofs.Common.{◌≡◌, ℕ, List, [], ◌∷◌, ◌++◌, reverse, refl, ap, sym, ◌∙◌, subst, inl, inr, ⊎_elim, append-nil}
+use Rattle.std.specs.Prelude.{true, false, not, nat_eq, Option, Some, None, option_map}
 use Rattle.std.specs.List.{AllByRecursion}
-use Rattle.std.proofs.lemmas.List.{reverse-append}
 use Rattle.std.proofs.lemmas.List.Elements.{filter-append}
 use Rattle.ax_types.specs.Places as lists
-use Rattle.ax_types.specs.declared.entries.Act.{Act}
-use Rattle.ax_types.specs.declared.entries.Act.TheVariants as act
-use Rattle.ax_types.specs.declared.ids.End.{End}
 use Rattle.ax_types.specs.declared.ids.End.TheVariants as end
 use Rattle.ax_types.specs.declared.items.Item.{Item}
 use Rattle.ax_types.specs.declared.items.Item.TheVariants as item
 use Rattle.ax_types.specs.declared.packets.Packet.{Packet}
-use Rattle.ax_types.specs.declared.packets.Payload.{Payload}
-use Rattle.ax_types.specs.declared.sessions.ClientState.TheVariants as state
-use Rattle.ax_types.specs.declared.steps.KeptStep.{KeptStep}
 use Rattle.ax_types.specs.declared.steps.WatchKind.{WatchKind}
 use Rattle.spec_raft.specs.Positions as positions
 use Rattle.spec_raft.proofs.Placing.{at_place-changed, at_place-others}
@@ -26,17 +19,16 @@ use Rattle.spec_claims.specs.Payloads as payloads
 use Rattle.spec_client.specs.Clients as clients
 use Rattle.spec_world.specs.Worlds as worlds
 use Rattle.spec_world.specs.Moves as moves
-use Rattle.spec_run.specs.Run as runs
 use Rattle.law_growth.specs.PlanCases as plan_cases
 use Rattle.law_release.proofs.Tests.{on_or_off, equal, unequal}
 use Rattle.law_client.specs.Inputs as inputs
 use Rattle.law_client.specs.Standing as standing
 use Rattle.law_client.specs.Promises as promises
 use Rattle.law_client.proofs.Lists.{IsAmong, some_same, all_since, all_append, reverse_more, reverse_onto}
-use Rattle.law_client.proofs.Steps.{Kept, same_opening}
-use Rattle.law_client.proofs.Promises.{new_client_stands, input_keeps, others_keep}
+use Rattle.law_client.proofs.Steps.{Kept}
+use Rattle.law_client.proofs.Promises.{input_keeps, others_keep}
 use Rattle.law_seats.specs.Seats as seats
-use Rattle.law_seats.proofs.Unwatched.{some_none, unwatched_reverse, unwatched_shown, all_unwatched, aside_claimed, aside_ends, shown_claimed, shown_ends, true_down, watched_aside, none_in}
+use Rattle.law_seats.proofs.Unwatched.{unwatched_reverse, unwatched_shown, all_unwatched, aside_claimed, aside_ends, shown_claimed, shown_ends, true_down, watched_aside, none_in}
 use Rattle.law_seats.proofs.Effects.{Effect, Aside, Acts, Watches, AreAside, MayCome, effect_of}
 
 abbrev seat_at : clients.Client → List Item → inputs.Seat
@@ -109,8 +101,7 @@ shown_each : (P : Option ℕ → Type 0) → P None → (c : ℕ) (watches : Lis
     → AllByRecursion (λ x. P (inputs.session_in x)) (moves.with_shown c watches items)
 shown_each P none c watches [] a = tt
 shown_each P none c watches (x ∷ items) a =
-    let below = moves.shown_below c watches x in
-    (
+    let below = moves.shown_below c watches x in (
       a.0,
       all_append (λ y. P (inputs.session_in y)) below (moves.with_shown c watches items)
           (all_since (λ y. claims_heard.is_watched y ≡ true) (λ y. P (inputs.session_in y)) (λ y w. subst P (sym (none_in y w)) none) below (watched_aside c watches x)) (shown_each P none c watches items a.1),
@@ -201,18 +192,18 @@ keeps_so h w above m (Acts c s i is may same shown) k told =
     let bare : seats.unwatched items ≡ own = unwatched_shown c s.watches own clear in
     let after : seats.unwatched (reverse items ++ above) ≡ below = unwatched_more items above ∙ ap (λ ys. reverse ys ++ seats.unwatched above) bare in
     let stand : (d : ℕ) (u : worlds.Watcher) → lists.at_place ss d ≡ Some u → standing.Stands h (seats.seat_below (reverse items ++ above) u) =
-        by_seat (λ d u. standing.Stands h (seats.seat_below (reverse items ++ above) u)) w.seats c s t is (subst (λ ys. standing.Stands h (seat_at next.client ys)) (sym after) r.stands)
-        (λ d u n e.
-        others_below h u.client above items (k.stand d u e)
-        (shown_each (inputs.IsOfOthers u.client.me h) tt c s.watches own
-          (all_since (λ x. standing.IsOfOwn c h below (inputs.session_in x)) (λ x. inputs.IsOfOthers u.client.me h (inputs.session_in x))
-            (λ x o. own_others h c u.client.me below (inputs.session_in x) (λ f. n (f ∙ k.numbers d u e)) o) own owner))) in
+    by_seat (λ d u. standing.Stands h (seats.seat_below (reverse items ++ above) u)) w.seats c s t is (subst (λ ys. standing.Stands h (seat_at next.client ys)) (sym after) r.stands)
+    (λ d u n e.
+    others_below h u.client above items (k.stand d u e)
+    (shown_each (inputs.IsOfOthers u.client.me h) tt c s.watches own
+    (all_since (λ x. standing.IsOfOwn c h below (inputs.session_in x)) (λ x. inputs.IsOfOthers u.client.me h (inputs.session_in x))
+    (λ x o. own_others h c u.client.me below (inputs.session_in x) (λ f. n (f ∙ k.numbers d u e)) o) own owner))) in
     let owned : AllByRecursion (λ x. seats.IsOfSeats h ss (inputs.session_in x)) (reverse items ++ above) =
-        all_append (λ x. seats.IsOfSeats h ss (inputs.session_in x)) (reverse items) above
-        (all_reversed (λ x. seats.IsOfSeats h ss (inputs.session_in x)) items
-          (shown_each (seats.IsOfSeats h ss) tt c s.watches own
-            (all_since (λ x. standing.IsOfOwn c h below (inputs.session_in x)) (λ x. seats.IsOfSeats h ss (inputs.session_in x)) (λ x o. own_owned h c ss t below (inputs.session_in x) (found_here w.seats c s t is) o) own owner)))
-        (all_since (λ x. seats.IsOfSeats h w.seats (inputs.session_in x)) (λ x. seats.IsOfSeats h ss (inputs.session_in x)) (λ x o. owned_since h w.seats c s t is (inputs.session_in x) o) above k.owned) in
+    all_append (λ x. seats.IsOfSeats h ss (inputs.session_in x)) (reverse items) above
+    (all_reversed (λ x. seats.IsOfSeats h ss (inputs.session_in x)) items
+    (shown_each (seats.IsOfSeats h ss) tt c s.watches own
+    (all_since (λ x. standing.IsOfOwn c h below (inputs.session_in x)) (λ x. seats.IsOfSeats h ss (inputs.session_in x)) (λ x o. own_owned h c ss t below (inputs.session_in x) (found_here w.seats c s t is) o) own owner)))
+    (all_since (λ x. seats.IsOfSeats h w.seats (inputs.session_in x)) (λ x. seats.IsOfSeats h ss (inputs.session_in x)) (λ x o. owned_since h w.seats c s t is (inputs.session_in x) o) above k.owned) in
     record {
       stand = record {
         numbers = subst (λ z. (d : ℕ) (u : worlds.Watcher) → lists.at_place z d ≡ Some u → u.client.me ≡ d) (sym same) (by_seat (λ d u. u.client.me ≡ d) w.seats c s t is me_next (λ d u n e. k.numbers d u e));

@@ -1,6 +1,6 @@
 -- What watches show changes no claim: what holds below the other items holds below all.
-use Rattle.std.proofs.Common.{◌≡◌, ℕ, zero, suc, ◌+◌, ◌≤◌, cond, List, [], ◌∷◌, ◌++◌, map, reverse, length, filter, flat_map, count_by, append-nil, max, refl, ap, sym, ◌∙◌, subst, inl, inr, ⊎_elim, arith}
-use Rattle.std.specs.Prelude.{◌⊎◌, Bool, true, false, not, ◌&&◌, ◌||◌, nat_eq, nat_lt, nat_le, is_some, Option, Some, None, option_map, if◌then◌else◌}
+use Rattle.std.proofs.Common.{◌≡◌, ℕ, ◌+◌, ◌≤◌, cond, List, [], ◌∷◌, ◌++◌, map, reverse, length, filter, flat_map, count_by, append-nil, max, refl, ap, sym, ◌∙◌, subst, inl, inr, ⊎_elim}
+use Rattle.std.specs.Prelude.{Bool, true, false, not, ◌&&◌, ◌||◌, nat_lt, nat_le, is_some, Option, Some, None, option_map}
 use Rattle.std.specs.List.{AllByRecursion, list_any}
 use Rattle.std.proofs.lemmas.List.Elements.{filter-append}
 use Rattle.ax_types.specs.Places as lists
@@ -8,14 +8,11 @@ use Rattle.ax_types.specs.declared.items.Item.{Item}
 use Rattle.ax_types.specs.declared.items.Item.TheVariants as item
 use Rattle.ax_types.specs.declared.ops.Level.{Level}
 use Rattle.ax_types.specs.declared.ops.Level.TheVariants as level
-use Rattle.ax_types.specs.declared.ops.Op.{Op}
-use Rattle.ax_types.specs.declared.ops.Query.{Query}
 use Rattle.ax_types.specs.declared.ops.WindowCall.{WindowCall}
 use Rattle.ax_types.specs.declared.ops.WindowCall.TheVariants as call
 use Rattle.ax_types.specs.declared.packets.Payload.{Payload}
 use Rattle.ax_types.specs.declared.packets.Payload.TheVariants as payload
 use Rattle.ax_types.specs.declared.replies.Event.{Event}
-use Rattle.ax_types.specs.declared.replies.How.{How}
 use Rattle.ax_types.specs.declared.replies.How.TheVariants as how
 use Rattle.ax_types.specs.declared.steps.WatchKind.{WatchKind}
 use Rattle.spec_book.specs.History as histories
@@ -359,6 +356,7 @@ watched_aside c watches (item.Event s p prev es) = all_kinds watches
     one_kind : (kind : WatchKind) (events : List Event) → AllByRecursion (λ y. claims_heard.is_watched y ≡ true) (map (λ e. item.Watched c kind s p e) events)
     one_kind kind [] = tt
     one_kind kind (e ∷ events) = (refl, one_kind kind events)
+
     all_kinds : (ws : List WatchKind) → AllByRecursion (λ y. claims_heard.is_watched y ≡ true) (flat_map (claims_heard.watched_by c s p es) ws)
     all_kinds [] = tt
     all_kinds (w ∷ ws) = all_append (λ y. claims_heard.is_watched y ≡ true) (claims_heard.watched_by c s p es w) (flat_map (claims_heard.watched_by c s p es) ws) (one_kind w (filter (claims_heard.holds w) es)) (all_kinds ws)
@@ -388,7 +386,7 @@ shown_claimed h c watches above (x ∷ items) a e =
     let below = moves.shown_below c watches x in
     let w : AllByRecursion (λ y. claims_heard.is_watched y ≡ true) below = watched_aside c watches x in
     let up : unwatched (reverse below ++ x ∷ above) ≡ x ∷ unwatched above =
-        filter-append (λ y. not (claims_heard.is_watched y)) (reverse below) (x ∷ above) ∙ ap (λ ys. ys ++ unwatched (x ∷ above)) (unwatched_reverse below ∙ ap reverse (none_left below w)) ∙ keeps_it x above a.0 in
+    filter-append (λ y. not (claims_heard.is_watched y)) (reverse below) (x ∷ above) ∙ ap (λ ys. ys ++ unwatched (x ∷ above)) (unwatched_reverse below ∙ ap reverse (none_left below w)) ∙ keeps_it x above a.0 in
     (claim_up h above x e.0, below_more h (x ∷ above) below (moves.with_shown c watches items) w (shown_claimed h c watches (reverse below ++ x ∷ above) items a.1 (subst (λ ys. transcripts.EachBelow (promises.IsClaimed h) ys items) (sym up) e.1)))
 
 -- so are ends
@@ -405,8 +403,7 @@ shown_ends c watches above (item.Ended s p how.Expired ∷ items) a e =
     ap (moves.with_shown c watches) e ∙ unshown s c watches (transcripts.unanswered s (reverse (unwatched above)))
     ∙ ap (λ cs. map (outcome_order.doubted s) cs) (ap (λ ys. transcripts.unanswered s ys) (sym (unwatched_reverse above)) ∙ unanswered_same s (reverse above))
 shown_ends c watches above (item.Ended s p how.Closed ∷ items) a e =
-    let up : unwatched (item.Ended s p how.Closed ∷ above) ≡ item.Ended s p how.Closed ∷ unwatched above = refl in
-    (
+    let up : unwatched (item.Ended s p how.Closed ∷ above) ≡ item.Ended s p how.Closed ∷ unwatched above = refl in (
       sym (unanswered_same s (reverse above)) ∙ ap (λ ys. transcripts.unanswered s ys) (unwatched_reverse above) ∙ e.0,
       shown_ends c watches (item.Ended s p how.Closed ∷ above) items a.1 e.1,
     )
@@ -415,7 +412,7 @@ shown_ends c watches above (item.Event s p prev es ∷ items) a e =
     let below = moves.shown_below c watches x in
     let w : AllByRecursion (λ y. claims_heard.is_watched y ≡ true) below = watched_aside c watches x in
     let up : unwatched (reverse below ++ x ∷ above) ≡ x ∷ unwatched above =
-        filter-append (λ y. not (claims_heard.is_watched y)) (reverse below) (x ∷ above) ∙ ap (λ ys. ys ++ unwatched (x ∷ above)) (unwatched_reverse below ∙ ap reverse (none_left below w)) in
+    filter-append (λ y. not (claims_heard.is_watched y)) (reverse below) (x ∷ above) ∙ ap (λ ys. ys ++ unwatched (x ∷ above)) (unwatched_reverse below ∙ ap reverse (none_left below w)) in
     aside_ends (x ∷ above) below (moves.with_shown c watches items) (all_since (λ y. claims_heard.is_watched y ≡ true) (λ y. inputs.session_in y ≡ None) (λ y is. none_in y is) below w)
     (shown_ends c watches (reverse below ++ x ∷ above) items a.1 (subst (λ ys. outcome_order.EndsStep ys items) (sym up) e))
 shown_ends c watches above (item.Doubt s n ∷ items) a e = absurd e

@@ -1,0 +1,31 @@
+-- What is still to be shown of each item: a reached read was called, places are committed, and commits come after calls.
+use Rattle.std.specs.Prelude.{ℕ, List, ◌++◌, reverse}
+use Rattle.ax_types.specs.declared.items.Item.{Item}
+use Rattle.ax_types.specs.declared.items.Item.TheVariants as item
+use Rattle.ax_types.specs.declared.ops.Level.TheVariants as level
+use Rattle.ax_types.specs.declared.ops.Query.{Query}
+use Rattle.ax_types.specs.declared.ops.WindowCall.TheVariants as call
+use Rattle.ax_types.specs.declared.steps.KeptStep.{KeptStep}
+use Rattle.spec_book.specs.History as histories
+use Rattle.spec_claims.specs.Transcript as transcripts
+use Rattle.spec_claims.specs.Once as once
+use Rattle.spec_claims.specs.Right as claims_right
+use Rattle.spec_world.specs.Worlds as worlds
+use Rattle.spec_world.specs.Moves as moves
+use Rattle.law_hosts.specs.Ledger as ledgers
+use Rattle.law_faithful.specs.Faith as faith
+
+-- a linearizable query that reached a leader was called
+abbrev pub IsReachCalled : List Item → Item → Type 0
+IsReachCalled above (item.Reach k t a s n) = (name : List ℕ) × (query : Query) × transcripts.StandsIn (item.Called s n (call.Query level.Lin name query)) above
+IsReachCalled above x = Unit {0}
+
+-- what holds so of the items of a step
+pub record AreMarked (h : histories.History) (above items : List Item) : Type 0 where
+  pub called : transcripts.EachBelow IsReachCalled above items
+  pub committed : transcripts.EachBelow claims_right.IsCommitted above items
+  pub before : (s : ℕ) → transcripts.EachBelow (once.IsCalledBefore h s) above items
+
+pub step_marks : (nodes clients time : ℕ) (h : histories.History) (l : ledgers.Ledger) (w : worlds.World) (early : List Item) (k : KeptStep)
+    → ((g : histories.History) → once.Begins w.history g → faith.Holds nodes clients time g l w early) → once.Begins (moves.moved w k).world.history h → AreMarked h (reverse early) (moves.moved w k).items
+step_marks nodes clients time h l w early k all b = ?
