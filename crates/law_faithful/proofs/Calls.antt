@@ -54,7 +54,7 @@ use Rattle.law_hosts.specs.Ledger as ledgers
 use Rattle.law_hosts.proofs.Folds.{acts_count}
 use Rattle.law_hosts.proofs.Applied.{SoFar, Serves, serves_facts, step_so_far, out_committed}
 use Rattle.law_items.proofs.Below.{below, each_append, below_append}
-use Rattle.law_items.proofs.Quiet.{AllQuiet, IsQuiet, PlanQuiet, plan_quiet, with_shown}
+use Rattle.law_items.proofs.Quiet.{AllQuiet, IsQuiet, PlanQuiet, all_quiet, plan_quiet, with_shown}
 use Rattle.law_faithful.specs.Faith as faith
 
 -- a linearizable query that reached a leader was called
@@ -349,8 +349,8 @@ carried_called w early p o (plan_cases.Asking v c x next a at me e) q queries = 
     (each_quiet IsReachCalled quiet_called (reverse early) (moves.with_shown c x.watches next.out.items) (with_shown c x.watches next.out.items (subst PlanQuiet e q)))
 carried_called w early p o (plan_cases.Falling k x at up e) q queries = subst (λ y. transcripts.EachBelow IsReachCalled (reverse early) (moves.carried y o).items) (sym e) tt
 carried_called w early p o (plan_cases.Setting k x t at e) q queries = subst (λ y. transcripts.EachBelow IsReachCalled (reverse early) (moves.carried y o).items) (sym e) tt
-carried_called w early p o (plan_cases.Seating c x t items at me e) q queries = subst (λ y. transcripts.EachBelow IsReachCalled (reverse early) (moves.carried y o).items) (sym e) (each_quiet IsReachCalled quiet_called (reverse early) items (subst PlanQuiet e q))
-carried_called w early p o (plan_cases.Showing v items a e) q queries = subst (λ y. transcripts.EachBelow IsReachCalled (reverse early) (moves.carried y o).items) (sym e) (each_quiet IsReachCalled quiet_called (reverse early) items (subst PlanQuiet e q))
+carried_called w early p o (plan_cases.Seating c x t items at me e) q queries = subst (λ y. transcripts.EachBelow IsReachCalled (reverse early) (moves.carried y o).items) (sym e) (each_quiet IsReachCalled quiet_called (reverse early) items (all_quiet items (subst PlanQuiet e q)))
+carried_called w early p o (plan_cases.Showing v items a e) q queries = subst (λ y. transcripts.EachBelow IsReachCalled (reverse early) (moves.carried y o).items) (sym e) (each_quiet IsReachCalled quiet_called (reverse early) items (all_quiet items (subst PlanQuiet e q)))
 
 abbrev IfRequested : ℕ → histories.History → ledgers.Ledger → List Item → ℕ → plans.Plan → StepOutcome → Type 0
 IfRequested time h l early s p o = once.Begins (kept_stores.acts_of time (ledgers.ledger_in l p o).committed) h → acts.AreRequested (once.commands s (early ++ (moves.carried p o).items)) s (ledgers.ledger_in l p o).committed
@@ -373,8 +373,8 @@ carried_before nodes clients time h l w early s p o (plan_cases.Asking v c x nex
     (λ g asked. each_quiet (once.IsCalledBefore h s) (quiet_before h s) (reverse early) (moves.with_shown c x.watches next.out.items) (with_shown c x.watches next.out.items (subst PlanQuiet e q)))
 carried_before nodes clients time h l w early s p o (plan_cases.Falling k x at up e) q f = subst (λ y. IfRequested time h l early s y o) (sym e) (λ g asked. tt)
 carried_before nodes clients time h l w early s p o (plan_cases.Setting k x t at e) q f = subst (λ y. IfRequested time h l early s y o) (sym e) (λ g asked. tt)
-carried_before nodes clients time h l w early s p o (plan_cases.Seating c x t items at me e) q f = subst (λ y. IfRequested time h l early s y o) (sym e) (λ g asked. each_quiet (once.IsCalledBefore h s) (quiet_before h s) (reverse early) items (subst PlanQuiet e q))
-carried_before nodes clients time h l w early s p o (plan_cases.Showing v items a e) q f = subst (λ y. IfRequested time h l early s y o) (sym e) (λ g asked. each_quiet (once.IsCalledBefore h s) (quiet_before h s) (reverse early) items (subst PlanQuiet e q))
+carried_before nodes clients time h l w early s p o (plan_cases.Seating c x t items at me e) q f = subst (λ y. IfRequested time h l early s y o) (sym e) (λ g asked. each_quiet (once.IsCalledBefore h s) (quiet_before h s) (reverse early) items (all_quiet items (subst PlanQuiet e q)))
+carried_before nodes clients time h l w early s p o (plan_cases.Showing v items a e) q f = subst (λ y. IfRequested time h l early s y o) (sym e) (λ g asked. each_quiet (once.IsCalledBefore h s) (quiet_before h s) (reverse early) items (all_quiet items (subst PlanQuiet e q)))
 
 -- of a step: from what holds before it, and from what the requests say after it
 pub step_called : (nodes clients time : ℕ) (h : histories.History) (l : ledgers.Ledger) (w : worlds.World) (early : List Item) (k : KeptStep) → faith.Holds nodes clients time h l w early → transcripts.EachBelow IsReachCalled (reverse early) (moves.moved w k).items

@@ -1,5 +1,6 @@
 pub mod Requests
 pub mod Steps
+pub mod Seating
 pub mod Watches
 pub mod Calls
 pub mod Marks

@@ -88,7 +88,7 @@ by_seat P ss c s t is here there d u e = ⊎_elim
     (on_or_off (nat_eq c d))
 
 -- a client's items are none that a watch shows
-own_unwatched : (me : ℕ) (h : histories.History) (below items : List Item) → AllByRecursion (λ x. standing.IsOfOwn me h below (inputs.session_in x)) items → AllByRecursion (λ x. claims_heard.is_watched x ≡ false) items
+pub own_unwatched : (me : ℕ) (h : histories.History) (below items : List Item) → AllByRecursion (λ x. standing.IsOfOwn me h below (inputs.session_in x)) items → AllByRecursion (λ x. claims_heard.is_watched x ≡ false) items
 own_unwatched me h below [] a = tt
 own_unwatched me h below (x ∷ items) a = (not_watched x a.0, own_unwatched me h below items a.1)
   where
@@ -121,7 +121,7 @@ told_among h w above q (p ∷ ps) a (inl e) = subst (λ (x : Packet). seats.IsTo
 told_among h w above q (p ∷ ps) a (inr b) = told_among h w above q ps a.1 b
 
 -- an input that comes may reach the client
-may_reach : (h : histories.History) (w : worlds.World) (above : List Item) (c : ℕ) (s : worlds.Watcher) (i : inputs.Input) → lists.at_place w.seats c ≡ Some s → s.client.me ≡ c → MayCome w c i → seats.AreTrueKept h w above
+pub may_reach : (h : histories.History) (w : worlds.World) (above : List Item) (c : ℕ) (s : worlds.Watcher) (i : inputs.Input) → lists.at_place w.seats c ≡ Some s → s.client.me ≡ c → MayCome w c i → seats.AreTrueKept h w above
     → inputs.MayReach h (seats.seat_below above s) i
 may_reach h w above c s (inputs.Receives node p) is me m told =
     let t : seats.IsTold h w above m.0.payload m.0.to = told_among h w above m.0 (plan_cases.kept_packets w.bag) told m.1 in
