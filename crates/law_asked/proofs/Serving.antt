@@ -122,7 +122,7 @@ task_says S x (input.Beat clock) s = record { input = (tt, tt); passed = tt }
 task_says S x (input.Check clock) s = expiries_say S x.raft (sessions.due_sessions x.state (nodes.time_for x.raft clock)) clock
 task_says S x (input.Packet clock p) s = packet_says S x.raft x clock p.«from» p.payload s
 
-blank_says : (S : ℕ → Payload → Type 0) (e : Entry) → e.body ≡ body.Blank → EntrySays S e
+pub blank_says : (S : ℕ → Payload → Type 0) (e : Entry) → e.body ≡ body.Blank → EntrySays S e
 blank_says S e is = subst (asked.BodySays S) (sym is) tt
 
 -- the Raft node
