@@ -149,7 +149,7 @@ expiries_pass : (o : Option Payload) (xs : List ℕ) (clock : ℕ) → Passes o 
 expiries_pass o [] clock = tt
 expiries_pass o (x ∷ xs) clock = tt
 
-pub task_passes : (s : servers.Server) (i : ServerInput) → Passes (passing.payload_of i) (servers.task s i)
+pub task_passes : (s : servers.Server) (i : ServerInput) → Passes (passing.payload_brought i) (servers.task s i)
 task_passes s (input.Elect clock) = tt
 task_passes s (input.Beat clock) = tt
 task_passes s (input.Check clock) = expiries_pass None (sessions.due_sessions s.state (nodes.time_for s.raft clock)) clock

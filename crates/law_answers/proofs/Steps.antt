@@ -77,7 +77,7 @@ count_all n (d ∷ ds) h =
     let r = count_all n ds h.1 in
     omega (arith, a, one, r)
 
-dos_all : (h : histories.History) (s : ℕ) → once.dos_upto h s (length h) ≡ length (histories.dos h s)
+pub dos_all : (h : histories.History) (s : ℕ) → once.dos_upto h s (length h) ≡ length (histories.dos h s)
 dos_all h s = count_all (length h) (histories.dos h s) (dos_within s 0 (length h) h (omega arith))
 
 -- a query that is let through
@@ -176,7 +176,7 @@ message : (items : List Item) (clock : ℕ) (a : End) (p : Payload) → IsTrueTa
 message items clock (end.Node j) p = record { held = tt; read = tt }
 message items clock (end.Client c) p = record { held = tt; read = tt }
 
-packet_true : (items : List Item) (s : servers.Server) (clock : ℕ) (a : End) (p : Payload) → laws.IsQueryCalled items p → IsTrueTask items (servers.packet_task s clock a p)
+packet_true : (items : List Item) (s : servers.Server) (clock : ℕ) (a : End) (p : Payload) → laws.IsQueryMade items p → IsTrueTask items (servers.packet_task s clock a p)
 packet_true items s clock a (payload.Vote t l lt) k = message items clock a (payload.Vote t l lt)
 packet_true items s clock a (payload.VoteReply t g) k = message items clock a (payload.VoteReply t g)
 packet_true items s clock a (payload.Append t p pt c r es) k = message items clock a (payload.Append t p pt c r es)
@@ -417,7 +417,7 @@ servers_send_truth timeout items committed s i k m =
     let h : List (ℕ × Act) = kept_stores.acts_of timeout committed in
     let all : laws.AreTruePackets items h (g.progress.packets ++ queries ++ hearings) = subst (λ x. laws.AreTruePackets items x (g.progress.packets ++ queries ++ hearings)) (sym p.whole) (packets_grow items p.before p.after (g.progress.packets ++ queries ++ hearings) told) in
     let raft = to_nodes items h g.out.packets (all_raft_sends s.raft t.input) in
-    let passed = to_nodes items h t.passed (all_since (λ x. passing.IsToNode x.to × (Some x.payload ≡ passing.payload_of i)) (λ x. passing.IsToNode x.to) (λ x y. y.0) t.passed (task_passes s i)) in
+    let passed = to_nodes items h t.passed (all_since (λ x. passing.IsToNode x.to × (Some x.payload ≡ passing.payload_brought i)) (λ x. passing.IsToNode x.to) (λ x y. y.0) t.passed (task_passes s i)) in
     record {
       server = record {
         applied = p.applied;

@@ -24,9 +24,9 @@ IsToClient (end.Node k) = ⊥
 IsToClient (end.Client c) = Unit {0}
 
 -- the payload of an input
-abbrev pub payload_of : ServerInput → Option Payload
-payload_of (input.Packet clock p) = Some p.payload
-payload_of _ = None
+abbrev pub payload_brought : ServerInput → Option Payload
+payload_brought (input.Packet clock p) = Some p.payload
+payload_brought _ = None
 
 -- the Raft node takes its input, and what it keeps and sends goes out unchanged; besides that go the request itself, to another
 -- node, and what clients are told
@@ -37,7 +37,7 @@ pub record PassesOn (s : servers.Server) (i : ServerInput) : Type 0 where
   pub told : List Packet
   pub packets : (server_steps.server_out s i).packets ≡ (server_steps.raft_out s.raft (servers.task s i).input).packets ++ (passed ++ told)
   pub raft_sends : AllByRecursion (λ p. IsToNode p.to) (server_steps.raft_out s.raft (servers.task s i).input).packets
-  pub requests : AllByRecursion (λ p. IsToNode p.to × (Some p.payload ≡ payload_of i)) passed
+  pub requests : AllByRecursion (λ p. IsToNode p.to × (Some p.payload ≡ payload_brought i)) passed
   pub clients : AllByRecursion (λ p. IsToClient p.to) told
 
 abbrev pub ServersPassOn : Type 0

@@ -42,13 +42,13 @@ abbrev pub AnswersOfEntries : Type 0
 AnswersOfEntries = (timeout : ℕ) (done es : List Entry) (items : List Item) (n : raft_nodes.Node) (cs : List gates.Connection) → EntriesAnswerTruly timeout done es items n cs
 
 -- an election is begun by a node that does not lead; a query that comes was called
-abbrev pub IsQueryCalled : List Item → Payload → Type 0
-IsQueryCalled items (payload.Query c s n l seen seq name q) = true_servers.IsQueried items s n l seq name q
-IsQueryCalled items _ = Unit {0}
+abbrev pub IsQueryMade : List Item → Payload → Type 0
+IsQueryMade items (payload.Query c s n l seen seq name q) = true_servers.IsQueried items s n l seq name q
+IsQueryMade items _ = Unit {0}
 
 abbrev pub IsRightInput : List Item → servers.Server → ServerInput → Type 0
 IsRightInput items s (input.Elect clock) = servers.leads s ≡ false
-IsRightInput items s (input.Packet clock p) = IsQueryCalled items p.payload
+IsRightInput items s (input.Packet clock p) = IsQueryMade items p.payload
 IsRightInput items s _ = Unit {0}
 
 -- a log holds what is committed, up to its commit
@@ -61,7 +61,7 @@ abbrev pub IsReadCovered : List Item → ℕ → ℕ → ℕ × ℕ → Type 0
 IsReadCovered items node term r = (s n : ℕ) (later earlier : List Item) → items ≡ later ++ item.Reach node term r.0 s n ∷ earlier → transcripts.greatest_commit earlier ≤ r.1
 
 -- what is known of a step: of its input, of the log, of the reads that are ready, and that its own reach is among the items
-pub record MayTake (items : List Item) (committed : List Entry) (s : servers.Server) (i : ServerInput) : Type 0 where
+pub record IsInformed (items : List Item) (committed : List Entry) (s : servers.Server) (i : ServerInput) : Type 0 where
   pub right : IsRightInput items s i
   pub log : IsCommittedLog committed (server_steps.server_after s i).raft
   pub reads : AllByRecursion (IsReadCovered items (server_steps.server_after s i).raft.ballot.me (server_steps.server_after s i).raft.ballot.term) (server_steps.raft_out s.raft (servers.task s i).input).reads
@@ -73,7 +73,7 @@ pub record IsTrueStep (timeout : ℕ) (items : List Item) (committed : List Entr
   pub packets : AreTruePackets items (kept_stores.acts_of timeout committed) (server_steps.server_out s i).packets
 
 abbrev pub ServersSendTruth : Type 0
-ServersSendTruth = (timeout : ℕ) (items : List Item) (committed : List Entry) (s : servers.Server) (i : ServerInput) → true_servers.IsTrueServer timeout items committed s → MayTake items committed s i
+ServersSendTruth = (timeout : ℕ) (items : List Item) (committed : List Entry) (s : servers.Server) (i : ServerInput) → true_servers.IsTrueServer timeout items committed s → IsInformed items committed s i
     → IsTrueStep timeout items committed s i
 
 -- a server that starts
@@ -87,4 +87,4 @@ ServersLast = (timeout : ℕ) (early later : List Item) (committed more : List E
 
 -- what is asked of a step can be
 abbrev pub FirstStepMayBeMade : Type 0
-FirstStepMayBeMade = (me nodes timeout clock : ℕ) → MayTake [] [] (servers.new_server me nodes timeout) (input.Beat clock)
+FirstStepMayBeMade = (me nodes timeout clock : ℕ) → IsInformed [] [] (servers.new_server me nodes timeout) (input.Beat clock)

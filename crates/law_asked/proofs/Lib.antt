@@ -1,2 +1,5 @@
 pub mod Sending
 pub mod Serving
+pub mod Saying
+pub mod Moving
+pub mod Runs

@@ -48,7 +48,7 @@ sends : (P : Entry → Type 0) (n : nodes.Node) (k : ℕ) → AllByRecursion P n
 sends P n k a = each_take P logs.most_entries (drop (suc (progress.next_place_of n.leading.peers k - 1) - 1) n.log) (each_drop P (suc (progress.next_place_of n.leading.peers k - 1) - 1) n.log a)
 
 led_sends : (P : Entry → Type 0) (n : nodes.Node) (clock : ℕ) → SendsRaft P (nodes.led n clock)
-led_sends P n clock = record { add = (blank (record { term = n.ballot.term; time = nodes.time_for n clock; body = body.Blank }) refl, tt); packets = tt }
+led_sends P n clock = record { packets = tt }
 
 candidacy_sends : (P : Entry → Type 0) (n : nodes.Node) (clock : ℕ) → SendsRaft P (nodes.candidacy n clock)
 candidacy_sends P n clock =

@@ -1,5 +1,5 @@
 -- What is still to be shown of each item: a reached read was called, places are committed, and commits come after calls.
-use Rattle.std.specs.Prelude.{ℕ, List, ◌++◌, reverse}
+use Rattle.std.proofs.Common.{ℕ, List, ◌++◌, reverse, ap, ◌∙◌, append_assoc}
 use Rattle.ax_types.specs.declared.items.Item.{Item}
 use Rattle.ax_types.specs.declared.items.Item.TheVariants as item
 use Rattle.ax_types.specs.declared.ops.Level.TheVariants as level
@@ -13,12 +13,11 @@ use Rattle.spec_claims.specs.Right as claims_right
 use Rattle.spec_world.specs.Worlds as worlds
 use Rattle.spec_world.specs.Moves as moves
 use Rattle.law_hosts.specs.Ledger as ledgers
+use Rattle.law_growth.proofs.Numbers.{history_follows}
 use Rattle.law_faithful.specs.Faith as faith
-
--- a linearizable query that reached a leader was called
-abbrev pub IsReachCalled : List Item → Item → Type 0
-IsReachCalled above (item.Reach k t a s n) = (name : List ℕ) × (query : Query) × transcripts.StandsIn (item.Called s n (call.Query level.Lin name query)) above
-IsReachCalled above x = Unit {0}
+use Rattle.law_faithful.proofs.Requests.{requests_stand}
+use Rattle.law_faithful.proofs.Calls.{step_called, step_before}
+pub use Rattle.law_faithful.proofs.Calls.{IsReachCalled}
 
 -- what holds so of the items of a step
 pub record AreMarked (h : histories.History) (above items : List Item) : Type 0 where
@@ -28,4 +27,12 @@ pub record AreMarked (h : histories.History) (above items : List Item) : Type 0 
 
 pub step_marks : (nodes clients time : ℕ) (h : histories.History) (l : ledgers.Ledger) (w : worlds.World) (early : List Item) (k : KeptStep)
     → ((g : histories.History) → once.Begins w.history g → faith.Holds nodes clients time g l w early) → once.Begins (moves.moved w k).world.history h → AreMarked h (reverse early) (moves.moved w k).items
-step_marks nodes clients time h l w early k all b = ?
+step_marks nodes clients time h l w early k all b =
+    let step : once.Begins w.history (moves.moved w k).world.history = history_follows w k in
+    let on : once.Begins w.history h = (step.0 ++ b.0, b.1 ∙ ap (λ hs. hs ++ b.0) step.1 ∙ append_assoc w.history step.0 b.0) in
+    let x = all h on in
+    record {
+      called = step_called nodes clients time h l w early k x;
+      committed = ?;
+      before = step_before nodes clients time h h l w early k x b (requests_stand nodes clients time h l w early k x b);
+    }

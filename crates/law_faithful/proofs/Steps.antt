@@ -96,7 +96,7 @@ numbered : (h : histories.History) (early xs : List Item) → truths.AreCallsNum
 numbered h early xs n c s = each_more (outcome_order.IsNumbered s) early xs (n s) (each_since (promises.IsClaimed h) (outcome_order.IsNumbered s) (λ above x k. (k.outcome s).0) (reverse early) xs c)
 
 -- what was called stays so as the items grow
-query_lasts : (early later : List Item) → truths.AreCallsNumbered (early ++ later) → (p : Payload) → true_steps.IsQueryCalled (reverse early) p → true_steps.IsQueryCalled (reverse (early ++ later)) p
+query_lasts : (early later : List Item) → truths.AreCallsNumbered (early ++ later) → (p : Payload) → true_steps.IsQueryMade (reverse early) p → true_steps.IsQueryMade (reverse (early ++ later)) p
 query_lasts early later numbered (payload.Query c s n l seen seq name q) k =
     items_grow (λ items. true_servers.IsQueried items s n l seq name q)
     (λ x items m a t. record { called = inr t.called; behind = let e = same_below s n (call.Query l name q) x items (m s) a t.called in let b = t.behind in omega (arith, e, b) }) early later numbered k
@@ -119,12 +119,12 @@ query_lasts early later numbered (payload.Ended xa xb xc) k = tt
 
 -- a server's step
 right_input : (w : worlds.World) (early its : List Item) (k : ℕ) (x : worlds.Host) (i : ServerInput) → truths.AreCallsNumbered (early ++ its)
-    → AllByRecursion (λ (p : Packet). true_steps.IsQueryCalled (reverse early) p.payload) (plan_cases.kept_packets w.bag) → plan_cases.IsInputOf w k x i → true_steps.IsRightInput (reverse (early ++ its)) x.server i
+    → AllByRecursion (λ (p : Packet). true_steps.IsQueryMade (reverse early) p.payload) (plan_cases.kept_packets w.bag) → plan_cases.IsInputOf w k x i → true_steps.IsRightInput (reverse (early ++ its)) x.server i
 right_input w early its k x (input.Elect clock) n q known = known
 right_input w early its k x (input.Beat clock) n q known = tt
 right_input w early its k x (input.Check clock) n q known = tt
 right_input w early its k x (input.Packet clock p) n q known =
-    query_lasts early its n p.payload (all_at (λ (p : Packet). true_steps.IsQueryCalled (reverse early) p.payload) (plan_cases.kept_packets w.bag) known.1.place p q known.1.found)
+    query_lasts early its n p.payload (all_at (λ (p : Packet). true_steps.IsQueryMade (reverse early) p.payload) (plan_cases.kept_packets w.bag) known.1.place p q known.1.found)
 
 option_some : (o : Option Item) (x : Item) → o ≡ Some x → moves.option_item o ≡ x ∷ []
 option_some o x e = ap moves.option_item e
@@ -138,7 +138,7 @@ serves_true nodes clients time h l w v early k x i y numbered a at up known =
     let new : ledgers.Ledger = ledgers.with_input l k x.server.raft (servers.task x.server i).input in
     let f : Serves w.timeout l.committed new.committed x i = serves_facts nodes l w v k x i y.so_far.matched y.so_far.stands a at up known in
     let old : true_servers.IsTrueServer time (reverse (early ++ its)) new.committed x.server =
-        subst (λ c. true_servers.IsTrueServer time (reverse (early ++ its)) c x.server) (sym f.begins.1) (servers_last time early its l.committed f.begins.0 x.server numbered (y.servers k x at up)) in
+    subst (λ c. true_servers.IsTrueServer time (reverse (early ++ its)) c x.server) (sym f.begins.1) (servers_last time early its l.committed f.begins.0 x.server numbered (y.servers k x at up)) in
     let first : List Item = moves.leader_item k out.led ++ moves.commit_item (length v.history) out.committed in
     servers_send_truth time (reverse (early ++ its)) new.committed x.server i old (record {
       right = right_input w early its k x i numbered y.requests.queries known;
@@ -198,7 +198,7 @@ carried_servers nodes clients time h l w early p o (plan_cases.Loading k x at do
         let z : worlds.Host = record { is_up = true; clock = x.clock; server = servers.server_from k (worlds.nodes_of w) w.timeout (worlds.content_with x added); at_stake = [] } in
         one_changed time (reverse (early ++ [])) l.committed w k z
         (λ u. subst (λ t. true_servers.IsTrueServer time (reverse (early ++ [])) l.committed (servers.server_from k (worlds.nodes_of w) t (worlds.content_with x added))) (sym y.so_far.numbers.timeout)
-          (servers_start time (reverse (early ++ [])) l.committed k (worlds.nodes_of w) (worlds.content_with x added)))
+        (servers_start time (reverse (early ++ [])) l.committed k (worlds.nodes_of w) (worlds.content_with x added)))
         (all_last time early [] l.committed l.committed w.hosts w.hosts ([], sym (append-nil l.committed)) n refl y.servers)
 
     loaded : (o : StepOutcome) → truths.AreCallsNumbered (early ++ (moves.loaded w k x o).items) → AreTrueServers time (reverse (early ++ (moves.loaded w k x o).items)) l.committed (moves.loaded w k x o).world.hosts
@@ -265,7 +265,7 @@ carried_told nodes clients time h l w early p o (plan_cases.Serving v k x i a at
         all_kept (λ (p : Packet). true_steps.IsTrueTo (reverse (early ++ its)) h p.to p.payload) v.bag out.packets
         (all_told h early its n (plan_cases.kept_packets w.bag) (plan_cases.kept_packets v.bag) a.kept y.told)
         (all_since (λ (p : Packet). true_steps.IsTrueTo (reverse (early ++ its)) g p.to p.payload) (λ (p : Packet). true_steps.IsTrueTo (reverse (early ++ its)) h p.to p.payload) (λ p t. told_later (reverse (early ++ its)) g h begins p.to p.payload t) out.packets
-          (serves_true nodes clients time h l w v early k x i y n a at up known).packets)
+        (serves_true nodes clients time h l w v early k x i y n a at up known).packets)
 
     served : (o : StepOutcome) → ToldBy nodes clients time h l w early o (plans.Serves v k x i)
     served outcome.Fine n f b = well n f b
@@ -279,7 +279,7 @@ carried_told nodes clients time h l w early p o (plan_cases.Loading k x at down 
     loaded (outcome.Failed saved) n f b = all_told h early (item.Halted k ∷ []) n (plan_cases.kept_packets w.bag) (plan_cases.kept_packets w.bag) refl y.told
 carried_told nodes clients time h l w early p o (plan_cases.Asking v c s next a at me e) y = subst (ToldBy nodes clients time h l w early o) (sym e)
     (λ n f b. let its : List Item = (moves.client_served v c s next).items in all_kept (λ (p : Packet). true_steps.IsTrueTo (reverse (early ++ its)) h p.to p.payload) v.bag (map (moves.from_client c) next.out.sends)
-      (all_told h early its n (plan_cases.kept_packets w.bag) (plan_cases.kept_packets v.bag) a.kept y.told) (none_told (reverse (early ++ its)) h c next.out.sends))
+    (all_told h early its n (plan_cases.kept_packets w.bag) (plan_cases.kept_packets v.bag) a.kept y.told) (none_told (reverse (early ++ its)) h c next.out.sends))
 carried_told nodes clients time h l w early p o (plan_cases.Falling k x at up e) y = subst (ToldBy nodes clients time h l w early o) (sym e) (λ n f b. all_told h early [] n (plan_cases.kept_packets w.bag) (plan_cases.kept_packets w.bag) refl y.told)
 carried_told nodes clients time h l w early p o (plan_cases.Setting k x t at e) y = subst (ToldBy nodes clients time h l w early o) (sym e) (λ n f b. all_told h early [] n (plan_cases.kept_packets w.bag) (plan_cases.kept_packets w.bag) refl y.told)
 carried_told nodes clients time h l w early p o (plan_cases.Seating c s t its at me e) y = subst (ToldBy nodes clients time h l w early o) (sym e) (λ n f b. all_told h early its n (plan_cases.kept_packets w.bag) (plan_cases.kept_packets w.bag) refl y.told)

@@ -36,7 +36,7 @@ EndsAreAsked w early = AllByRecursion (λ (p : Packet). (c : ℕ) (s : worlds.Wa
 -- What the clients' requests, kept by the network or committed, say of the items so far: a query that is kept was called; a command
 -- that is committed with sequence k is its session's k-th; and a close that is told was asked for
 pub record RequestsStand (l : ledgers.Ledger) (w : worlds.World) (early : List Item) : Type 0 where
-  pub queries : AllByRecursion (λ (p : Packet). true_steps.IsQueryCalled (reverse early) p.payload) (plan_cases.kept_packets w.bag)
+  pub queries : AllByRecursion (λ (p : Packet). true_steps.IsQueryMade (reverse early) p.payload) (plan_cases.kept_packets w.bag)
   pub commands : (s : ℕ) → acts.AreRequested (once.commands s early) s l.committed
   pub ends : EndsAreAsked w early
 

@@ -33,7 +33,7 @@ record RanSo (h : histories.History) (w : worlds.World) (above : List Item) (ste
   claimed : transcripts.EachBelow (promises.IsClaimed h) above (transcripts.transcript (runs.ran w steps).shown)
   ends : outcome_order.EndsFrom above (runs.ran w steps).shown
 
-each_append : (P : List Item → Item → Type 0) (above xs ys : List Item) → transcripts.EachBelow P above xs → transcripts.EachBelow P (reverse xs ++ above) ys → transcripts.EachBelow P above (xs ++ ys)
+pub each_append : (P : List Item → Item → Type 0) (above xs ys : List Item) → transcripts.EachBelow P above xs → transcripts.EachBelow P (reverse xs ++ above) ys → transcripts.EachBelow P above (xs ++ ys)
 each_append P above [] ys a b = b
 each_append P above (x ∷ xs) ys a b = (a.0, each_append P (x ∷ above) xs ys a.1 (subst (λ zs. transcripts.EachBelow P zs ys) (reverse_onto x xs above) b))
 
@@ -61,7 +61,7 @@ map_found : {X Y : Type 0} (f : X → Y) (xs : List X) (p : ℕ) (y : Y) → lis
 map_found f xs zero y e = absurd (cc)
 map_found f xs (suc k) y e = map_got f xs k y e
 
-new_stand : (h : histories.History) (nodes clients timeout : ℕ) → seats.AllStand h (worlds.new_world nodes clients timeout) []
+pub new_stand : (h : histories.History) (nodes clients timeout : ℕ) → seats.AllStand h (worlds.new_world nodes clients timeout) []
 new_stand h nodes clients timeout = record {
   numbers = (new_numbers nodes clients timeout).numbers.seats;
   stand = λ c s e.
