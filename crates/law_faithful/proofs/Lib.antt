@@ -4,5 +4,6 @@ pub mod Seating
 pub mod Openings
 pub mod Watches
 pub mod Calls
+pub mod Placed
 pub mod Marks
 pub mod Runs

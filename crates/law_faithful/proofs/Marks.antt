@@ -1,5 +1,5 @@
 -- What is still to be shown of each item: a reached read was called, places are committed, and commits come after calls.
-use Rattle.std.proofs.Common.{ℕ, List, ◌++◌, reverse, ap, ◌∙◌, append_assoc}
+use Rattle.std.proofs.Common.{ℕ, List, [], ◌++◌, reverse, ap, sym, ◌∙◌, append_assoc, append-nil}
 use Rattle.ax_types.specs.declared.items.Item.{Item}
 use Rattle.ax_types.specs.declared.items.Item.TheVariants as item
 use Rattle.ax_types.specs.declared.ops.Level.TheVariants as level
@@ -17,6 +17,7 @@ use Rattle.law_growth.proofs.Numbers.{history_follows}
 use Rattle.law_faithful.specs.Faith as faith
 use Rattle.law_faithful.proofs.Requests.{requests_stand}
 use Rattle.law_faithful.proofs.Calls.{step_called, step_before}
+use Rattle.law_faithful.proofs.Placed.{step_committed}
 pub use Rattle.law_faithful.proofs.Calls.{IsReachCalled}
 
 -- what holds so of the items of a step
@@ -33,6 +34,6 @@ step_marks nodes clients time h l w early k all b =
     let x = all h on in
     record {
       called = step_called nodes clients time h l w early k x;
-      committed = ?;
+      committed = step_committed nodes clients time l w early k (all w.history ([], sym (append-nil w.history)));
       before = step_before nodes clients time h h l w early k x b (requests_stand nodes clients time h l w early k x b);
     }

@@ -40,7 +40,7 @@ max_zero n = omega arith
 zero_max : (n : ℕ) → n ≡ max 0 n
 zero_max n = omega arith
 
-greatest_item : (x : Item) (xs : List Item) → transcripts.greatest_commit (x ∷ xs) ≡ max (transcripts.greatest_commit (x ∷ [])) (transcripts.greatest_commit xs)
+pub greatest_item : (x : Item) (xs : List Item) → transcripts.greatest_commit (x ∷ xs) ≡ max (transcripts.greatest_commit (x ∷ [])) (transcripts.greatest_commit xs)
 greatest_item (item.Commit p) xs = let h : max p (transcripts.greatest_commit xs) ≡ max (max p 0) (transcripts.greatest_commit xs) = omega arith in h
 greatest_item (item.Halted xa) xs = zero_max (transcripts.greatest_commit xs)
 greatest_item (item.Opened xa xb) xs = zero_max (transcripts.greatest_commit xs)

@@ -92,7 +92,7 @@ heard_by_one h w items s k o =
     ap (λ xs. claims_heard.heard s xs) (sym (unwatched_reverse (reverse items)) ∙ ap seats.unwatched (reverse-reverse items)) ∙ heard_same s items in
     (b.0, b.1 ∙ ap (λ xs. xs ++ b.0) same)
 
-heard_all : (h : histories.History) (w : worlds.World) (items : List Item) (s : ℕ) → seats.AllStand h w (reverse items) → (a : Option (ℕ × Act)) → lists.at_place h s ≡ a
+pub heard_all : (h : histories.History) (w : worlds.World) (items : List Item) (s : ℕ) → seats.AllStand h w (reverse items) → (a : Option (ℕ × Act)) → lists.at_place h s ≡ a
     → claims_once.Begins (claims_heard.heard s items) (histories.events h s)
 heard_all h w items s k None e = heard_by_none h w items s k (λ o. subst (payloads.IsOpeningOf o.client o.opening) e o.opened)
 heard_all h w items s k (Some (t, act.Open c p)) e = by_found (lists.at_place w.seats c) refl
