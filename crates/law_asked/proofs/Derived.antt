@@ -1,6 +1,6 @@
 -- What follows from what is said: committed requests, queries under way, commands that take effect, and ends by a close.
-use Rattle.std.proofs.Common.{◌≡◌, ℕ, zero, suc, ◌≤◌, List, [], ◌∷◌, ◌++◌, map, reverse, length, take, count_by, refl, ap, sym, ◌∙◌, subst, inl, inr}
-use Rattle.std.specs.Prelude.{◌⊎◌, Bool, true, false, nat_lt, Option, Some, None, flat_map, if◌then◌else◌}
+use Rattle.std.proofs.Common.{◌≡◌, ℕ, List, ◌++◌, reverse, length, take, refl, ap, sym, ◌∙◌, subst}
+use Rattle.std.specs.Prelude.{nat_lt, Option, Some, None, flat_map}
 use Rattle.std.specs.List.{AllByRecursion}
 use Rattle.std.proofs.lemmas.List.{reverse-reverse}
 use Rattle.ax_types.specs.Places as lists
@@ -12,33 +12,26 @@ use Rattle.ax_types.specs.declared.entries.Entry.{Entry}
 use Rattle.ax_types.specs.declared.items.Item.{Item}
 use Rattle.ax_types.specs.declared.items.Item.TheVariants as item
 use Rattle.ax_types.specs.declared.ops.Level.{Level}
-use Rattle.ax_types.specs.declared.ops.Op.{Op}
 use Rattle.ax_types.specs.declared.ops.Query.{Query}
 use Rattle.ax_types.specs.declared.ops.WindowCall.TheVariants as call
-use Rattle.ax_types.specs.declared.packets.Packet.{Packet}
 use Rattle.ax_types.specs.declared.packets.Payload.{Payload}
 use Rattle.ax_types.specs.declared.packets.Payload.TheVariants as payload
 use Rattle.ax_types.specs.declared.raft.RaftInput.{RaftInput}
-use Rattle.ax_types.specs.declared.replies.How.{How}
 use Rattle.ax_types.specs.declared.replies.How.TheVariants as how
 use Rattle.ax_types.specs.declared.sessions.ClientState.{ClientState}
 use Rattle.ax_types.specs.declared.sessions.ClientState.TheVariants as state
 use Rattle.ax_types.specs.declared.sessions.ServerInput.{ServerInput}
-use Rattle.ax_types.specs.declared.steps.KeptStep.{KeptStep}
 use Rattle.ax_types.specs.declared.steps.StepOutcome.{StepOutcome}
 use Rattle.ax_types.specs.declared.steps.StepOutcome.TheVariants as outcome
 use Rattle.spec_book.specs.History as histories
 use Rattle.spec_claims.specs.Transcript as transcripts
 use Rattle.spec_claims.specs.Once as claims_once
-use Rattle.spec_claims.specs.Heard as claims_heard
 use Rattle.spec_claims.specs.OutcomeOrder as outcome_order
 use Rattle.spec_claims.specs.Payloads as payloads
 use Rattle.spec_node.specs.Node as nodes
 use Rattle.spec_node.specs.NodeStep as node_steps
-use Rattle.spec_cluster.specs.Cluster as clusters
 use Rattle.spec_client.specs.Clients as clients
 use Rattle.spec_server.specs.Servers as servers
-use Rattle.spec_server.specs.ServerStep as server_steps
 use Rattle.spec_world.specs.Worlds as worlds
 use Rattle.spec_world.specs.Plans as plans
 use Rattle.spec_world.specs.Moves as moves
@@ -57,9 +50,9 @@ use Rattle.law_requests.specs.Requests as requests
 use Rattle.law_seats.specs.Seats as seats
 use Rattle.law_seats.proofs.Unwatched.{unwatched_reverse, calls_same, below_same, stands_up}
 use Rattle.law_asked.specs.Asked as asked
-use Rattle.law_asked.proofs.Serving.{PacketSays, EntrySays, InputMay, ServerSays, server_says, raft_log}
+use Rattle.law_asked.proofs.Serving.{EntrySays, InputMay, ServerSays, server_says, raft_log}
 use Rattle.law_asked.proofs.Saying.{said_stays}
-use Rattle.law_asked.proofs.Moving.{alike_said, input_says, host_at}
+use Rattle.law_asked.proofs.Moving.{input_says, host_at}
 use Rattle.law_asked.proofs.Runs.{entries_since, said_since}
 
 -- what becomes committed was in the log of a server
@@ -124,6 +117,7 @@ commands_requested h ss items s es said p k c is = by_entry (lists.at_place es p
     of_body (body.Keep d t x y) b i = absurd i
     of_body (body.Close d t) b i = absurd i
     of_body (body.Expire t) b i = absurd i
+
     by_entry : (o : Option Entry) → lists.at_place es p ≡ o → acts.IsCommandAt s k c o → lists.at_place (claims_once.commands s items) k ≡ Some c
     by_entry None e i = absurd i
     by_entry (Some x) e i = of_body x.body (each_at (EntrySays (asked.IsSaidBy h ss (reverse items))) es p x said e) i
@@ -154,6 +148,7 @@ close_asked h past w above es c t s p stand said of is ends mine = by_act (lists
         let one : c ≡ d = sym (stand.numbers c t is) ∙ same ∙ stand.numbers d b.seat b.found in
         let seat : b.seat ≡ t = some_same b.seat t (sym b.found ∙ ap (λ n. lists.at_place w.seats n) (sym one) ∙ is) in
         subst (λ u. inputs.HasClosed (seats.seat_below above u) s) seat b.says.1
+
     of_body : (b : Body) → asked.BodySays (asked.IsSaidBy h w.seats above) b → kept_stores.IsBodyOf (act.Close s) b → inputs.HasClosed (seats.seat_below above t) s
     of_body (body.Close d u) b i = asked_so d (subst (λ v. asked.IsSaidBy h w.seats above d (payload.Close d v)) i b)
     of_body body.Blank b i = absurd i
@@ -161,9 +156,11 @@ close_asked h past w above es c t s p stand said of is ends mine = by_act (lists
     of_body (body.Keep d u x y) b i = absurd i
     of_body (body.Command d u n name o) b i = absurd i
     of_body (body.Expire u) b i = absurd i
+
     by_entry : (time : ℕ) (o : Option Entry) → lists.at_place es p ≡ o → acts.IsActOf o (time, act.Close s) → inputs.HasClosed (seats.seat_below above t) s
     by_entry time None e i = absurd i
     by_entry time (Some x) e i = of_body x.body (each_at (EntrySays (asked.IsSaidBy h w.seats above)) es p x said e) i.1
+
     by_act : (a : Option (ℕ × Act)) → lists.at_place past p ≡ a → outcome_order.IsEndOf s how.Closed a → inputs.HasClosed (seats.seat_below above t) s
     by_act None e i = absurd i
     by_act (Some (time, act.Close u)) e i =

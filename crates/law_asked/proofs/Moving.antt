@@ -1,13 +1,11 @@
 -- The world after a step, plan by plan: what is under way and in logs.
-use Rattle.std.proofs.Common.{◌≡◌, ℕ, zero, suc, List, [], ◌∷◌, ◌++◌, map, reverse, length, take, refl, ap, sym, ◌∙◌, subst, inl, inr}
-use Rattle.std.specs.Prelude.{Bool, true, false, Option, Some, None, slice_get, if◌then◌else◌}
+use Rattle.std.proofs.Common.{◌≡◌, ℕ, zero, suc, List, [], ◌∷◌, ◌++◌, map, length, take, refl, ap, sym, ◌∙◌, subst}
+use Rattle.std.specs.Prelude.{Bool, true, Option, Some, None, slice_get, if◌then◌else◌}
 use Rattle.std.specs.List.{AllByRecursion, list_any}
 use Rattle.ax_types.specs.Places as lists
-use Rattle.ax_types.specs.declared.entries.Entry.{Entry}
 use Rattle.ax_types.specs.declared.entries.Loaded.{Loaded}
 use Rattle.ax_types.specs.declared.ids.End.{End}
 use Rattle.ax_types.specs.declared.ids.End.TheVariants as end
-use Rattle.ax_types.specs.declared.items.Item.{Item}
 use Rattle.ax_types.specs.declared.items.Item.TheVariants as item
 use Rattle.ax_types.specs.declared.items.SkipReason.{SkipReason}
 use Rattle.ax_types.specs.declared.items.SkipReason.TheVariants as reason
@@ -64,7 +62,7 @@ left_says S n (Some i) saved log may =
     let calls = saving.calls_of (node_steps.out n i).saves in
     let stake = saving.at_stake (slice_get calls saved) in
     let both = all_before (EntrySays S) (saving.kept_at_failure (nodes.kept_of n) calls saved).log (take (length stake) stake)
-        (halted_log (EntrySays S) n i saved (length stake) log (did_brings (EntrySays S) n i (blank_says S) log may.0)) in
+    (halted_log (EntrySays S) n i saved (length stake) log (did_brings (EntrySays S) n i (blank_says S) log may.0)) in
     record { log = both.0; rest = subst (AllByRecursion (EntrySays S)) (take_all stake) both.1 }
 
 kept_all : (S : ℕ → Payload → Type 0) (bag : bags.Bag) (ps : List Packet) → AllByRecursion (PacketSays S) (plan_cases.kept_packets bag) → AllByRecursion (PacketSays S) ps

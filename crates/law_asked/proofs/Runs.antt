@@ -1,11 +1,8 @@
 -- Each step, and runs.
-use Rattle.std.proofs.Common.{◌≡◌, ℕ, List, [], ◌∷◌, ◌++◌, map, reverse, refl, ap, sym, ◌∙◌, subst, append-nil, append_assoc}
-use Rattle.std.specs.Prelude.{Option, Some, None}
+use Rattle.std.proofs.Common.{◌≡◌, ℕ, List, [], ◌∷◌, ◌++◌, map, reverse, ap, sym, ◌∙◌, subst, append-nil, append_assoc}
 use Rattle.std.specs.List.{AllByRecursion}
 use Rattle.std.proofs.lemmas.List.{reverse-append}
-use Rattle.ax_types.specs.Places as lists
 use Rattle.ax_types.specs.declared.items.Item.{Item}
-use Rattle.ax_types.specs.declared.packets.Packet.{Packet}
 use Rattle.ax_types.specs.declared.packets.Payload.{Payload}
 use Rattle.ax_types.specs.declared.packets.Payload.TheVariants as payload
 use Rattle.ax_types.specs.declared.entries.Body.{Body}
@@ -68,10 +65,10 @@ plan_sends h w above (plans.Asks v c s next) o k told by =
     let i : inputs.Input = by.0.0 in
     let say = acted_say h w above c s i k told by.2 by.0.2 in
     let moved_next : clients.ClientStep → Type 0 = λ n.
-        AllByRecursion (λ (x : ℕ × Payload). asked.PayloadSays (asked.IsSaidBy h (positions.change_place (λ old. record s { client = n.client }) v.seats c) (reverse (moves.with_shown c s.watches n.out.items) ++ above)) x.1) n.out.sends in
+    AllByRecursion (λ (x : ℕ × Payload). asked.PayloadSays (asked.IsSaidBy h (positions.change_place (λ old. record s { client = n.client }) v.seats c) (reverse (moves.with_shown c s.watches n.out.items) ++ above)) x.1) n.out.sends in
     subst moved_next (sym by.0.1)
     (subst (λ ss. AllByRecursion (λ (x : ℕ × Payload). asked.PayloadSays (asked.IsSaidBy h (positions.change_place (λ old. record s { client = (inputs.client_stepped s.client i).client }) ss c)
-          (reverse (moves.with_shown c s.watches (inputs.client_stepped s.client i).out.items) ++ above)) x.1) (inputs.client_stepped s.client i).out.sends) (sym by.1) say)
+    (reverse (moves.with_shown c s.watches (inputs.client_stepped s.client i).out.items) ++ above)) x.1) (inputs.client_stepped s.client i).out.sends) (sym by.1) say)
 plan_sends h w above (plans.Serves v k x i) o stand told by = tt
 plan_sends h w above (plans.Loads v k x) o stand told by = tt
 plan_sends h w above (plans.Shows v items) o stand told by = tt

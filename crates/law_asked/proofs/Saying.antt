@@ -1,12 +1,11 @@
 -- What a client said stays said in a step.
-use Rattle.std.proofs.Common.{◌≡◌, ℕ, zero, suc, List, [], ◌∷◌, ◌++◌, map, reverse, refl, ap, sym, ◌∙◌, subst, inl, inr, ⊎_elim}
-use Rattle.std.specs.Prelude.{◌⊎◌, Bool, true, false, nat_eq, Option, Some, None}
+use Rattle.std.proofs.Common.{◌≡◌, ℕ, List, [], ◌∷◌, ◌++◌, reverse, ap, sym, ◌∙◌, subst, ⊎_elim}
+use Rattle.std.specs.Prelude.{false, nat_eq, Some}
 use Rattle.std.specs.List.{AllByRecursion}
 use Rattle.ax_types.specs.Places as lists
 use Rattle.ax_types.specs.declared.items.Item.{Item}
 use Rattle.ax_types.specs.declared.packets.Payload.{Payload}
 use Rattle.ax_types.specs.declared.packets.Payload.TheVariants as payload
-use Rattle.ax_types.specs.declared.steps.KeptStep.{KeptStep}
 use Rattle.spec_raft.specs.Positions as positions
 use Rattle.spec_book.specs.History as histories
 use Rattle.spec_claims.specs.Heard as claims_heard
@@ -24,7 +23,7 @@ use Rattle.law_requests.proofs.Requests.{requests_say_calls, said_stays_said}
 use Rattle.law_seats.specs.Seats as seats
 use Rattle.law_seats.proofs.Unwatched.{unwatched_shown, all_unwatched}
 use Rattle.law_seats.proofs.Effects.{Effect, Aside, Acts, Watches, MayCome, effect_of}
-use Rattle.law_seats.proofs.Seats.{seat_at, own_unwatched, shown_each, own_others, others_below, unwatched_more, may_reach, found_here, found_there, aside_others}
+use Rattle.law_seats.proofs.Seats.{seat_at, own_unwatched, shown_each, own_others, unwatched_more, may_reach, found_here, found_there, aside_others}
 use Rattle.law_asked.specs.Asked as asked
 
 -- items of others, one after the other
@@ -72,7 +71,7 @@ acted h w above c s i k told is may =
       others = λ d u n e.
           shown_each (inputs.IsOfOthers u.client.me h) tt c s.watches own
           (all_since (λ x. standing.IsOfOwn c h below (inputs.session_in x)) (λ x. inputs.IsOfOthers u.client.me h (inputs.session_in x))
-            (λ x o. own_others h c u.client.me below (inputs.session_in x) (λ f. n (f ∙ k.numbers d u e)) o) own owner);
+          (λ x o. own_others h c u.client.me below (inputs.session_in x) (λ f. n (f ∙ k.numbers d u e)) o) own owner);
     }
 
 said_on : (h : histories.History) (w : worlds.World) (above : List Item) (m : moves.Moved) → Effect w m → seats.AllStand h w above → seats.AreTrueKept h w above → (c : ℕ) (p : Payload)
@@ -86,7 +85,7 @@ said_on h w above m (Watches d t ws is same none) k told c p s =
     let new : worlds.Watcher = record t { watches = ws } in
     let same_above : reverse m.items ++ above ≡ above = ap (λ items. reverse items ++ above) none in
     let keep : (u : worlds.Watcher) → lists.at_place m.world.seats c ≡ Some u → requests.RequestSays h (seats.seat_below above u) p → asked.IsSaidBy h m.world.seats (reverse m.items ++ above) c p =
-        λ u e says. record { seat = u; found = e; says = subst (λ ys. requests.RequestSays h (seats.seat_below ys u) p) (sym same_above) says } in
+    λ u e says. record { seat = u; found = e; says = subst (λ ys. requests.RequestSays h (seats.seat_below ys u) p) (sym same_above) says } in
     ⊎_elim
     (λ e.
     let eq : d ≡ c = equal d c e in
@@ -102,7 +101,7 @@ said_on h w above m (Acts d t i is may same shown) k told c p s =
     let new : worlds.Watcher = record t { client = next.client } in
     let a : Acted h w above d t i = acted h w above d t i k told is may in
     let keep : (u : worlds.Watcher) → lists.at_place m.world.seats c ≡ Some u → requests.RequestSays h (seats.seat_below (reverse items ++ above) u) p → asked.IsSaidBy h m.world.seats (reverse m.items ++ above) c p =
-        λ u e says. record { seat = u; found = e; says = subst (λ ys. requests.RequestSays h (seats.seat_below (reverse ys ++ above) u) p) (sym shown) says } in
+    λ u e says. record { seat = u; found = e; says = subst (λ ys. requests.RequestSays h (seats.seat_below (reverse ys ++ above) u) p) (sym shown) says } in
     ⊎_elim
     (λ e.
     let eq : d ≡ c = equal d c e in
@@ -127,6 +126,7 @@ request_said h ss above c t is me p says = by_payload p says
   where
     said : (d : ℕ) (q : Payload) → d ≡ t.client.me → requests.RequestSays h (seats.seat_below above t) q → asked.IsSaidBy h ss above d q
     said d q e s = record { seat = t; found = ap (λ n. lists.at_place ss n) (e ∙ me) ∙ is; says = s }
+
     by_payload : (q : Payload) → requests.RequestSays h (seats.seat_below above t) q → asked.PayloadSays (asked.IsSaidBy h ss above) q
     by_payload (payload.Register d opening) s = said d (payload.Register d opening) s.0 s
     by_payload (payload.Keep d u answered heard) s = said d (payload.Keep d u answered heard) s.client s

@@ -1,27 +1,20 @@
 -- What a node sends to others is Raft's, and its entries say what those of its log and of its packet say.
-use Rattle.std.proofs.Common.{◌≡◌, ℕ, zero, suc, ◌-◌, ◌≤◌, List, [], ◌∷◌, ◌++◌, length, take, drop, map, refl, ap, sym, ◌∙◌, subst}
-use Rattle.std.specs.Prelude.{Bool, true, false, ◌&&◌, not, nat_eq, nat_lt, nat_le, min, max, Option, Some, None, slice_get, if◌then◌else◌}
+use Rattle.std.proofs.Common.{ℕ, suc, ◌-◌, List, [], ◌∷◌, length, drop}
+use Rattle.std.specs.Prelude.{Bool, true, false, ◌&&◌, not, nat_eq, nat_lt, nat_le, min, Some, None, if◌then◌else◌}
 use Rattle.std.specs.List.{AllByRecursion}
-use Rattle.ax_types.specs.declared.entries.Body.{Body}
-use Rattle.ax_types.specs.declared.entries.Body.TheVariants as body
 use Rattle.ax_types.specs.declared.entries.Entry.{Entry}
-use Rattle.ax_types.specs.declared.entries.Loaded.{Loaded}
 use Rattle.ax_types.specs.declared.packets.Packet.{Packet}
 use Rattle.ax_types.specs.declared.packets.Payload.{Payload}
 use Rattle.ax_types.specs.declared.packets.Payload.TheVariants as payload
 use Rattle.ax_types.specs.declared.raft.RaftInput.{RaftInput}
 use Rattle.ax_types.specs.declared.raft.RaftInput.TheVariants as asked
-use Rattle.ax_types.specs.declared.raft.Saves.{Saves}
 use Rattle.spec_raft.specs.Log as logs
 use Rattle.spec_raft.specs.Ballot as votes
 use Rattle.spec_raft.specs.Progress as progress
 use Rattle.spec_node.specs.Node as nodes
 use Rattle.spec_node.specs.NodeStep as steps
-use Rattle.spec_node.specs.Saving as saving
-use Rattle.spec_node.proofs.Kept.{did_log}
 use Rattle.law_origin.specs.Origin.{entries_in}
-use Rattle.law_origin.proofs.Each.{by_test, each_append, each_take, each_drop, each_map}
-
+use Rattle.law_origin.proofs.Each.{by_test, each_take, each_drop, each_map}
 
 -- a payload of Raft, whose entries are such
 abbrev pub RaftSays : (Entry → Type 0) → Payload → Type 0
@@ -124,4 +117,3 @@ did_sends P n asked.Beat a b = record { packets = each_map (λ (p : Packet). Raf
 did_sends P n (asked.Append clock bodies) a b = record { packets = tt }
 did_sends P n asked.Read a b = read_sends P n (progress.has_read_room n.leading.reads)
 did_sends P n (asked.Message from clock p) a b = heeded_sends P n from clock p a b
-

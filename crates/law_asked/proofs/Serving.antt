@@ -1,6 +1,6 @@
 -- What a server keeps and sends says what its log and its input say.
-use Rattle.std.proofs.Common.{◌≡◌, ℕ, zero, suc, List, [], ◌∷◌, ◌++◌, map, refl, ap, sym, ◌∙◌, subst}
-use Rattle.std.specs.Prelude.{Bool, true, false, ◌&&◌, nat_eq, nat_le, Option, Some, None, if◌then◌else◌}
+use Rattle.std.proofs.Common.{◌≡◌, ℕ, suc, List, [], ◌∷◌, ◌++◌, map, sym, subst}
+use Rattle.std.specs.Prelude.{◌&&◌, nat_eq, nat_le, Option, Some, None, if◌then◌else◌}
 use Rattle.std.specs.List.{AllByRecursion}
 use Rattle.ax_types.specs.declared.entries.Act.TheVariants as act
 use Rattle.ax_types.specs.declared.entries.Batch.{Batch}
@@ -39,7 +39,7 @@ use Rattle.law_origin.specs.Origin.{entries_in}
 use Rattle.law_release.proofs.Tests.{by_test}
 use Rattle.law_client.proofs.Lists.{all_since, all_append}
 use Rattle.law_asked.specs.Asked as asked
-use Rattle.law_asked.proofs.Sending.{RaftSays, SendsRaft, MaySend, did_sends}
+use Rattle.law_asked.proofs.Sending.{RaftSays, MaySend, did_sends}
 
 abbrev pub PacketSays : (ℕ → Payload → Type 0) → Packet → Type 0
 PacketSays S p = asked.PayloadSays S p.payload
@@ -207,8 +207,8 @@ applied_say S n cs s (e ∷ es) =
     let rest = (server_steps.applying_all n cs (sessions.applying s (suc s.applied) e) es).packets in
     let f = sessions.effect s (suc s.applied) e.time e.body in
     let own : AllByRecursion (PacketSays S) (server_steps.entry_answer n e a.answer) =
-        by_test (AllByRecursion (PacketSays S)) (nodes.is_leader n && nat_eq e.term n.ballot.term) (server_steps.answers_to n a.answer) []
-        (λ x. answers_say S n (sessions.body_client e.body) _ (command_answers S _ (suc s.applied) f.command _ f.answer (effect_says S s (suc s.applied) e.time e.body))) (λ x. tt) in
+    by_test (AllByRecursion (PacketSays S)) (nodes.is_leader n && nat_eq e.term n.ballot.term) (server_steps.answers_to n a.answer) []
+    (λ x. answers_say S n (sessions.body_client e.body) _ (command_answers S _ (suc s.applied) f.command _ f.answer (effect_says S s (suc s.applied) e.time e.body))) (λ x. tt) in
     three_say S (server_steps.entry_answer n e a.answer) (server_steps.batches_to n cs a.batches) rest own (batches_say S n cs a.batches) (applied_say S n cs (sessions.applying s (suc s.applied) e) es)
 
 query_answer_says : (S : ℕ → Payload → Type 0) (h : Held) (a : Asked) → asked.PayloadSays S (server_steps.answer_payload h a)
@@ -249,8 +249,8 @@ server_says S x i log says =
       log = raft_log S x.raft t.input log k.input;
       packets = all_append P (((g.out.packets ++ t.passed) ++ g.progress.packets) ++ let_through) (server_steps.hearing_answer g.raft g.progress.state t.hearing)
           (all_append P ((g.out.packets ++ t.passed) ++ g.progress.packets) let_through
-            (three_say S g.out.packets t.passed g.progress.packets sent k.passed (applied_say S g.raft g.connections x.state (server_steps.to_apply g.raft x.state)))
-            (queries_say S g.raft g.progress.state (gates.let_through (sessions.is_ready g.progress.state) g.gate)))
+          (three_say S g.out.packets t.passed g.progress.packets sent k.passed (applied_say S g.raft g.connections x.state (server_steps.to_apply g.raft x.state)))
+          (queries_say S g.raft g.progress.state (gates.let_through (sessions.is_ready g.progress.state) g.gate)))
           (hearing_says S g.raft g.progress.state t.hearing);
       add = k.input;
     }

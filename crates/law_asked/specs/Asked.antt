@@ -1,5 +1,5 @@
 -- What requests say in a run: each that is under way, in a log, or committed, is one of its client.
-use Rattle.std.specs.Prelude.{ℕ, ◌≡◌, Some, Option, List, [], ◌∷◌, ◌++◌, reverse}
+use Rattle.std.specs.Prelude.{ℕ, ◌≡◌, Some, List, [], ◌++◌, reverse}
 use Rattle.std.specs.List.{AllByRecursion}
 use Rattle.ax_types.specs.Places as lists
 use Rattle.ax_types.specs.declared.entries.Body.{Body}

@@ -305,14 +305,14 @@ claim_up h above x c = record {
 
 -- what is of no session is claimed nothing
 pub aside_claimed : (h : histories.History) (above : List Item) (x : Item) → inputs.session_in x ≡ None → promises.IsClaimed h above x
-aside_claimed h above (item.Leader k t) e = record { outcome = λ s. (tt, tt, tt, tt); in_session = λ s. tt; growing = λ s. tt; after_events = λ s. tt; right = tt; reached = tt; within = tt; }
-aside_claimed h above (item.Commit p) e = record { outcome = λ s. (tt, tt, tt, tt); in_session = λ s. tt; growing = λ s. tt; after_events = λ s. tt; right = tt; reached = tt; within = tt; }
-aside_claimed h above (item.Reach k t a s n) e = record { outcome = λ u. (tt, tt, tt, tt); in_session = λ u. tt; growing = λ u. tt; after_events = λ u. tt; right = tt; reached = tt; within = tt; }
-aside_claimed h above (item.Halted k) e = record { outcome = λ s. (tt, tt, tt, tt); in_session = λ s. tt; growing = λ s. tt; after_events = λ s. tt; right = tt; reached = tt; within = tt; }
-aside_claimed h above (item.Watched c kind t p v) e = record { outcome = λ s. (tt, tt, tt, tt); in_session = λ s. tt; growing = λ s. tt; after_events = λ s. tt; right = tt; reached = tt; within = tt; }
-aside_claimed h above (item.Listed n) e = record { outcome = λ s. (tt, tt, tt, tt); in_session = λ s. tt; growing = λ s. tt; after_events = λ s. tt; right = tt; reached = tt; within = tt; }
-aside_claimed h above (item.Pending n f t k) e = record { outcome = λ s. (tt, tt, tt, tt); in_session = λ s. tt; growing = λ s. tt; after_events = λ s. tt; right = tt; reached = tt; within = tt; }
-aside_claimed h above (item.Skip r) e = record { outcome = λ s. (tt, tt, tt, tt); in_session = λ s. tt; growing = λ s. tt; after_events = λ s. tt; right = tt; reached = tt; within = tt; }
+aside_claimed h above (item.Leader k t) e = record { outcome = λ s. (tt, tt, tt, tt); in_session = λ s. tt; growing = λ s. tt; after_events = λ s. tt; right = tt; reached = tt; within = tt }
+aside_claimed h above (item.Commit p) e = record { outcome = λ s. (tt, tt, tt, tt); in_session = λ s. tt; growing = λ s. tt; after_events = λ s. tt; right = tt; reached = tt; within = tt }
+aside_claimed h above (item.Reach k t a s n) e = record { outcome = λ u. (tt, tt, tt, tt); in_session = λ u. tt; growing = λ u. tt; after_events = λ u. tt; right = tt; reached = tt; within = tt }
+aside_claimed h above (item.Halted k) e = record { outcome = λ s. (tt, tt, tt, tt); in_session = λ s. tt; growing = λ s. tt; after_events = λ s. tt; right = tt; reached = tt; within = tt }
+aside_claimed h above (item.Watched c kind t p v) e = record { outcome = λ s. (tt, tt, tt, tt); in_session = λ s. tt; growing = λ s. tt; after_events = λ s. tt; right = tt; reached = tt; within = tt }
+aside_claimed h above (item.Listed n) e = record { outcome = λ s. (tt, tt, tt, tt); in_session = λ s. tt; growing = λ s. tt; after_events = λ s. tt; right = tt; reached = tt; within = tt }
+aside_claimed h above (item.Pending n f t k) e = record { outcome = λ s. (tt, tt, tt, tt); in_session = λ s. tt; growing = λ s. tt; after_events = λ s. tt; right = tt; reached = tt; within = tt }
+aside_claimed h above (item.Skip r) e = record { outcome = λ s. (tt, tt, tt, tt); in_session = λ s. tt; growing = λ s. tt; after_events = λ s. tt; right = tt; reached = tt; within = tt }
 aside_claimed h above (item.Opened s c) e = absurd (some_none s e)
 aside_claimed h above (item.Called s n w) e = absurd (some_none s e)
 aside_claimed h above (item.Event s p prev es) e = absurd (some_none s e)
