@@ -3,3 +3,4 @@ pub mod Serving
 pub mod Saying
 pub mod Moving
 pub mod Runs
+pub mod Derived

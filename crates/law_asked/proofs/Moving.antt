@@ -1,5 +1,5 @@
 -- The world after a step, plan by plan: what is under way and in logs.
-use Rattle.std.proofs.Common.{◌≡◌, ℕ, zero, suc, List, [], ◌∷◌, ◌++◌, map, reverse, length, take, refl, ap, sym, ◌∙◌, subst, inl, inr, take_all}
+use Rattle.std.proofs.Common.{◌≡◌, ℕ, zero, suc, List, [], ◌∷◌, ◌++◌, map, reverse, length, take, refl, ap, sym, ◌∙◌, subst, inl, inr}
 use Rattle.std.specs.Prelude.{Bool, true, false, Option, Some, None, slice_get, if◌then◌else◌}
 use Rattle.std.specs.List.{AllByRecursion, list_any}
 use Rattle.ax_types.specs.Places as lists
@@ -32,6 +32,7 @@ use Rattle.spec_client.specs.Clients as clients
 use Rattle.spec_world.specs.Worlds as worlds
 use Rattle.spec_world.specs.Plans as plans
 use Rattle.spec_world.specs.Moves as moves
+use Rattle.law_told.proofs.Lists.{take_all}
 use Rattle.law_growth.specs.PlanCases as plan_cases
 use Rattle.law_growth.proofs.Sent.{all_kept}
 use Rattle.law_origin.proofs.Each.{each_take, each_at, each_change, each_append}
@@ -74,14 +75,14 @@ host_changed : (S : ℕ → Payload → Type 0) (hosts : List worlds.Host) (k : 
     → AllByRecursion (asked.HostSays S) (positions.change_place (λ old. x) hosts k)
 host_changed S hosts k x a s = each_change (asked.HostSays S) (λ old. x) hosts k (λ y b. s) a
 
-alike_said : (S : ℕ → Payload → Type 0) (w v : worlds.World) → plan_cases.IsAlike w v → asked.AllSaid S w → asked.AllSaid S v
+pub alike_said : (S : ℕ → Payload → Type 0) (w v : worlds.World) → plan_cases.IsAlike w v → asked.AllSaid S w → asked.AllSaid S v
 alike_said S w v alike a = record {
   packets = subst (AllByRecursion (PacketSays S)) (sym alike.kept) a.packets;
   hosts = subst (AllByRecursion (asked.HostSays S)) (sym alike.hosts) a.hosts;
 }
 
 -- a server's step
-input_says : (S : ℕ → Payload → Type 0) (w : worlds.World) (k : ℕ) (x : worlds.Host) (i : ServerInput) → plan_cases.IsInputOf w k x i → asked.AllSaid S w → InputSays S i
+pub input_says : (S : ℕ → Payload → Type 0) (w : worlds.World) (k : ℕ) (x : worlds.Host) (i : ServerInput) → plan_cases.IsInputOf w k x i → asked.AllSaid S w → InputSays S i
 input_says S w k x (input.Packet clock p) is a = each_at (PacketSays S) (plan_cases.kept_packets w.bag) is.1.place p a.packets is.1.found
 input_says S w k x (input.Elect clock) is a = tt
 input_says S w k x (input.Beat clock) is a = tt
@@ -126,7 +127,7 @@ abbrev pub SendsSay : (ℕ → Payload → Type 0) → plans.Plan → Type 0
 SendsSay S (plans.Asks v c s next) = AllByRecursion (λ (x : ℕ × Payload). asked.PayloadSays S x.1) next.out.sends
 SendsSay S p = Unit {0}
 
-host_at : (S : ℕ → Payload → Type 0) (w : worlds.World) (k : ℕ) (x : worlds.Host) → lists.at_place w.hosts k ≡ Some x → asked.AllSaid S w → asked.HostSays S x
+pub host_at : (S : ℕ → Payload → Type 0) (w : worlds.World) (k : ℕ) (x : worlds.Host) → lists.at_place w.hosts k ≡ Some x → asked.AllSaid S w → asked.HostSays S x
 host_at S w k x is a = each_at (asked.HostSays S) w.hosts k x a.hosts is
 
 pub carried_said : (S : ℕ → Payload → Type 0) (w : worlds.World) (p : plans.Plan) (o : StepOutcome) → plan_cases.IsCase w p → asked.AllSaid S w → SendsSay S p → asked.AllSaid S (moves.carried p o).world

@@ -55,7 +55,7 @@ payload_since S T f (payload.Query c u n l seen seq name q) s = f c (payload.Que
 payload_since S T f (payload.Append term prev prev_term commit round es) s = entries_since S T f es s
 payload_since S T f p s = tt
 
-said_since : (S T : ℕ → Payload → Type 0) → ((c : ℕ) (p : Payload) → S c p → T c p) → (w : worlds.World) → asked.AllSaid S w → asked.AllSaid T w
+pub said_since : (S T : ℕ → Payload → Type 0) → ((c : ℕ) (p : Payload) → S c p → T c p) → (w : worlds.World) → asked.AllSaid S w → asked.AllSaid T w
 said_since S T f w a = record {
   packets = all_since (PacketSays S) (PacketSays T) (λ p s. payload_since S T f p.payload s) _ a.packets;
   hosts = all_since (asked.HostSays S) (asked.HostSays T) (λ x s. record { log = entries_since S T f x.server.raft.log s.log; at_stake = entries_since S T f x.at_stake s.at_stake }) w.hosts a.hosts;

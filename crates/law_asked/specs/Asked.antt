@@ -16,6 +16,7 @@ use Rattle.spec_world.specs.Worlds as worlds
 use Rattle.spec_world.specs.Moves as moves
 use Rattle.spec_run.specs.Run as runs
 use Rattle.law_growth.specs.PlanCases as plan_cases
+use Rattle.law_hosts.specs.Ledger as ledgers
 use Rattle.law_requests.specs.Requests as requests
 use Rattle.law_seats.specs.Seats as seats
 
@@ -73,3 +74,9 @@ RunsAreSaid = (h : histories.History) (nodes clients timeout : ℕ) (steps : Lis
 abbrev pub SaidStays : Type 0
 SaidStays = (h : histories.History) (w : worlds.World) (above : List Item) (k : KeptStep) → seats.AllStand h w above → seats.AreTrueKept h w above
     → (c : ℕ) (p : Payload) → IsSaidBy h w.seats above c p → IsSaidBy h (moves.moved w k).world.seats (reverse (moves.moved w k).items ++ above) c p
+
+-- what is committed is said by its client, and each step keeps that
+abbrev pub EachStepCommits : Type 0
+EachStepCommits = (h : histories.History) (l : ledgers.Ledger) (w : worlds.World) (above : List Item) (k : KeptStep) → seats.AllStand h w above → seats.AreTrueKept h w above → AreSaid h w above
+    → EntriesSay (IsSaidBy h w.seats above) l.committed
+    → EntriesSay (IsSaidBy h (moves.moved w k).world.seats (reverse (moves.moved w k).items ++ above)) (ledgers.ledger_by l w k).committed

@@ -17,3 +17,8 @@ pub fn each_step_says()
 pub fn runs_are_said()
     ensures { asked.RunsAreSaid }
 {}
+
+/// What is committed is what a client said, and each step keeps that.
+pub fn committed_says()
+    ensures { asked.EachStepCommits }
+{}
