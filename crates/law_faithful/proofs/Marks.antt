@@ -15,7 +15,7 @@ use Rattle.spec_world.specs.Moves as moves
 use Rattle.law_hosts.specs.Ledger as ledgers
 use Rattle.law_growth.proofs.Numbers.{history_follows}
 use Rattle.law_faithful.specs.Faith as faith
-use Rattle.law_faithful.proofs.Requests.{requests_stand}
+use Rattle.law_faithful.proofs.Steps.{step_holds}
 use Rattle.law_faithful.proofs.Calls.{step_called, step_before}
 use Rattle.law_faithful.proofs.Placed.{step_committed}
 pub use Rattle.law_faithful.proofs.Calls.{IsReachCalled}
@@ -35,5 +35,5 @@ step_marks nodes clients time h l w early k all b =
     record {
       called = step_called nodes clients time h l w early k x;
       committed = step_committed nodes clients time l w early k (all w.history ([], sym (append-nil w.history)));
-      before = step_before nodes clients time h h l w early k x b (requests_stand nodes clients time h l w early k x b);
+      before = step_before nodes clients time h h l w early k x b (step_holds nodes clients time h l w early k all b).requests;
     }

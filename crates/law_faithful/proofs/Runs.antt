@@ -41,6 +41,7 @@ use Rattle.law_items.proofs.Order.{node_items_are_ordered, history_is_counted}
 use Rattle.law_seats.specs.Seats as seats
 use Rattle.law_seats.proofs.Seats.{each_step_seats}
 use Rattle.law_seats.proofs.Runs.{runs_are_claimed}
+use Rattle.law_asked.proofs.Runs.{runs_are_said}
 use Rattle.law_faithful.specs.Faith as faith
 use Rattle.law_faithful.proofs.Steps.{below_early, each_since, each_more, true_kept, step_holds}
 use Rattle.law_faithful.proofs.Seating.{all_watches}
@@ -64,6 +65,8 @@ new_holds nodes clients time h = record {
   numbered = λ s. tt;
   servers = λ k x at up. at_cluster (λ j y. true_servers.IsTrueServer time [] [] y.server) (worlds.new_host nodes time) (λ j. servers_start time [] [] j nodes (Rattle.ax_types.specs.Loads.nothing_loaded)) nodes k x at;
   told = tt;
+  said = runs_are_said h nodes clients time [] tt;
+  committed = tt;
   requests = record { queries = tt; commands = λ s p k c i. absurd (nowhere (Rattle.law_sessions.specs.Acts.IsCommandAt s k c) p i); ends = tt };
   stand = (runs_are_claimed h nodes clients time [] tt).stand;
 }
@@ -84,7 +87,7 @@ are_watched nodes clients time h l w early (k ∷ steps) watches opened all b ri
     let m : moves.Moved = moves.moved w k in
     let step : once.Begins w.history m.world.history = history_follows w k in
     let after : once.Begins m.world.history h = begins_on m.world.history (runs.ran m.world steps).world.history h (histories_follow m.world steps) b in
-    let next : HoldsOn nodes clients time (ledgers.ledger_by l w k) m.world (early ++ m.items) = (λ g c. step_holds nodes clients time g l w early k (all g (begins_on w.history m.world.history g step c)) c) in
+    let next : HoldsOn nodes clients time (ledgers.ledger_by l w k) m.world (early ++ m.items) = (λ g c. step_holds nodes clients time g l w early k all c) in
     let x = all h (begins_on w.history m.world.history h step after) in
     let told : seats.AreTrueKept h w (reverse early) = true_kept nodes clients time h l w early x in
     let seat = each_step_seats h w (reverse early) k x.stand told in
@@ -130,7 +133,7 @@ run_holds nodes clients time h l w early (k ∷ steps) all b =
     let later : List Item = transcripts.transcript (runs.ran m.world steps).shown in
     let step : once.Begins w.history m.world.history = history_follows w k in
     let after : once.Begins m.world.history h = begins_on m.world.history (runs.ran m.world steps).world.history h (histories_follow m.world steps) b in
-    let next : HoldsOn nodes clients time (ledgers.ledger_by l w k) m.world (early ++ m.items) = (λ g c. step_holds nodes clients time g l w early k (all g (begins_on w.history m.world.history g step c)) c) in
+    let next : HoldsOn nodes clients time (ledgers.ledger_by l w k) m.world (early ++ m.items) = (λ g c. step_holds nodes clients time g l w early k all c) in
     let rest = run_holds nodes clients time h (ledgers.ledger_by l w k) m.world (early ++ m.items) steps next b in
     let x = all h (begins_on w.history m.world.history h step after) in
     let marks : AreMarked h (reverse early) m.items = step_marks nodes clients time h l w early k all after in

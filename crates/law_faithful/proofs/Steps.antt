@@ -42,7 +42,7 @@ use Rattle.law_answers.proofs.Steps.{servers_send_truth}
 use Rattle.law_answers.proofs.Lasting.{servers_start, servers_last}
 use Rattle.law_growth.specs.PlanCases as plan_cases
 use Rattle.law_growth.proofs.Cases.{true_false, plan_case}
-use Rattle.law_growth.proofs.Numbers.{placed}
+use Rattle.law_growth.proofs.Numbers.{placed, history_follows}
 use Rattle.law_growth.proofs.Sent.{all_since, all_kept}
 use Rattle.law_hosts.specs.Ledger as ledgers
 use Rattle.law_hosts.proofs.Applied.{SoFar, Serves, serves_facts, step_so_far, carried_grows}
@@ -53,6 +53,9 @@ use Rattle.law_items.proofs.Quiet.{plan_quiet}
 use Rattle.law_items.proofs.Order.{carried_shows, reads_covered}
 use Rattle.law_seats.specs.Seats as seats
 use Rattle.law_seats.proofs.Seats.{each_step_seats}
+use Rattle.law_asked.specs.Asked as asked
+use Rattle.law_asked.proofs.Runs.{each_step_says}
+use Rattle.law_asked.proofs.Derived.{committed_says}
 use Rattle.law_faithful.specs.Faith as faith
 use Rattle.law_faithful.proofs.Requests.{requests_stand}
 
@@ -285,23 +288,35 @@ carried_told nodes clients time h l w early p o (plan_cases.Setting k x t at e) 
 carried_told nodes clients time h l w early p o (plan_cases.Seating c s t its at me e) y = subst (ToldBy nodes clients time h l w early o) (sym e) (λ n f b. all_told h early its n (plan_cases.kept_packets w.bag) (plan_cases.kept_packets w.bag) refl y.told)
 carried_told nodes clients time h l w early p o (plan_cases.Showing v its a e) y = subst (ToldBy nodes clients time h l w early o) (sym e) (λ n f b. all_told h early its n (plan_cases.kept_packets w.bag) (plan_cases.kept_packets v.bag) a.kept y.told)
 
-pub step_holds : (nodes clients time : ℕ) (h : histories.History) (l : ledgers.Ledger) (w : worlds.World) (early : List Item) (k : KeptStep) → faith.Holds nodes clients time h l w early
+pub step_holds : (nodes clients time : ℕ) (h : histories.History) (l : ledgers.Ledger) (w : worlds.World) (early : List Item) (k : KeptStep) → ((g : histories.History) → once.Begins w.history g → faith.Holds nodes clients time g l w early)
     → once.Begins (moves.moved w k).world.history h → faith.Holds nodes clients time h (ledgers.ledger_by l w k) (moves.moved w k).world (early ++ (moves.moved w k).items)
-step_holds nodes clients time h l w early k x b =
+step_holds nodes clients time h l w early k all b =
     let p : plans.Plan = plans.plan w k.step in
     let c : plan_cases.IsCase w p = plan_case w k.step in
     let m : moves.Moved = moves.moved w k in
     let new : ledgers.Ledger = ledgers.ledger_by l w k in
-    let seat = each_step_seats h w (reverse early) k x.stand (true_kept nodes clients time h l w early x) in
+    let step : once.Begins w.history m.world.history = history_follows w k in
+    let x = all h (step.0 ++ b.0, b.1 ∙ ap (λ hs. hs ++ b.0) step.1 ∙ append_assoc w.history step.0 b.0) in
+    let kept : seats.AreTrueKept h w (reverse early) = true_kept nodes clients time h l w early x in
+    let seat = each_step_seats h w (reverse early) k x.stand kept in
     let calls : truths.AreCallsNumbered (early ++ m.items) = numbered h early m.items x.numbered seat.claimed in
     let shown = carried_shows nodes clients time l w p k.outcome (reverse early) c (plan_quiet w k.step) x.so_far x.led x.shows in
+    let far = step_so_far nodes clients time l w k x.so_far in
+    let above : reverse m.items ++ reverse early ≡ reverse (early ++ m.items) = sym (reverse-append early m.items) in
+    let stand : seats.AllStand h m.world (reverse (early ++ m.items)) = subst (seats.AllStand h m.world) above seat.stand in
+    let said : asked.AreSaid h m.world (reverse (early ++ m.items)) = subst (asked.AreSaid h m.world) above (each_step_says h w (reverse early) k x.stand kept x.said) in
+    let committed : asked.EntriesSay (asked.IsSaidBy h m.world.seats (reverse (early ++ m.items))) new.committed =
+    subst (λ xs. asked.EntriesSay (asked.IsSaidBy h m.world.seats xs) new.committed) above (committed_says h l w (reverse early) k x.stand kept x.said x.committed) in
+    let told : AreTold (reverse (early ++ m.items)) m.world.history (plan_cases.kept_packets m.world.bag) = carried_told nodes clients time m.world.history l w early p k.outcome c (all m.world.history step) calls far ([], sym (append-nil m.world.history)) in
     record {
-      so_far = step_so_far nodes clients time l w k x.so_far;
+      so_far = far;
       led = carried_led l w p k.outcome c x.led;
       shows = subst (Shows new.leds new.takens (length new.committed)) (below_early early m.items) shown.1;
       numbered = calls;
       servers = carried_servers nodes clients time h l w early p k.outcome c x calls;
-      told = carried_told nodes clients time h l w early p k.outcome c x calls (step_so_far nodes clients time l w k x.so_far) b;
-      requests = requests_stand nodes clients time h l w early k x b;
-      stand = subst (seats.AllStand h m.world) (sym (reverse-append early m.items)) seat.stand;
+      told = carried_told nodes clients time h l w early p k.outcome c x calls far b;
+      said = said;
+      committed = committed;
+      requests = requests_stand nodes clients time h new m.world (early ++ m.items) far stand said committed told;
+      stand = stand;
     }

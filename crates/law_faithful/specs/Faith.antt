@@ -25,6 +25,7 @@ use Rattle.law_hosts.proofs.Applied.{SoFar}
 use Rattle.law_items.proofs.Below.{Shows}
 use Rattle.law_items.proofs.Leads.{AreLed}
 use Rattle.law_seats.specs.Seats as seats
+use Rattle.law_asked.specs.Asked as asked
 
 abbrev pub RunsAreFaithful : Type 0
 RunsAreFaithful = (nodes clients timeout : ℕ) (steps : List KeptStep) → faithful.IsFaithful timeout (runs.run nodes clients timeout steps).shown (runs.run nodes clients timeout steps).world.history
@@ -48,5 +49,7 @@ pub record Holds (nodes clients time : ℕ) (h : histories.History) (l : ledgers
   pub numbered : truths.AreCallsNumbered early
   pub servers : (k : ℕ) (x : worlds.Host) → lists.at_place w.hosts k ≡ Some x → x.is_up ≡ true → true_servers.IsTrueServer time (reverse early) l.committed x.server
   pub told : AllByRecursion (λ (p : Packet). true_steps.IsTrueTo (reverse early) h p.to p.payload) (plan_cases.kept_packets w.bag)
+  pub said : asked.AreSaid h w (reverse early)
+  pub committed : asked.EntriesSay (asked.IsSaidBy h w.seats (reverse early)) l.committed
   pub requests : RequestsStand l w early
   pub stand : seats.AllStand h w (reverse early)
