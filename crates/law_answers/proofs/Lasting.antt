@@ -30,7 +30,7 @@ servers_start timeout items committed me nodes kept = record {
 abbrev AreNext : Item → List Item → Type 0
 AreNext x items = (s : ℕ) → outcome_order.IsNumbered s items x
 
-queried_more : (x : Item) (items : List Item) (s n : ℕ) (l : Level) (seq : ℕ) (name : List ℕ) (q : Query) → AreNext x items → AreCounted items → true_servers.IsQueried items s n l seq name q → true_servers.IsQueried (x ∷ items) s n l seq name q
+pub queried_more : (x : Item) (items : List Item) (s n : ℕ) (l : Level) (seq : ℕ) (name : List ℕ) (q : Query) → AreNext x items → AreCounted items → true_servers.IsQueried items s n l seq name q → true_servers.IsQueried (x ∷ items) s n l seq name q
 queried_more x items s n l seq name q m a k = record {
   called = inr k.called;
   behind = let e = same_below s n (call.Query l name q) x items (m s) a k.called in let b = k.behind in omega (arith, e, b);

@@ -77,7 +77,7 @@ count_all n (d ∷ ds) h =
     let r = count_all n ds h.1 in
     omega (arith, a, one, r)
 
-dos_all : (h : histories.History) (s : ℕ) → once.dos_upto h s (length h) ≡ length (histories.dos h s)
+pub dos_all : (h : histories.History) (s : ℕ) → once.dos_upto h s (length h) ≡ length (histories.dos h s)
 dos_all h s = count_all (length h) (histories.dos h s) (dos_within s 0 (length h) h (omega arith))
 
 -- a query that is let through

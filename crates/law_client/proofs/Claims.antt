@@ -88,6 +88,7 @@ reply_claimed h above s n name o g seq next ends called events rank is =
       after_events = λ t e. subst (λ u. claims_heard.AreHeardUpto h u g.place above) (sym e) events;
       right = (subst (λ k. option_map (λ d. d.0) (lists.at_place (histories.dos h s) k) ≡ Some g.place) rank is.place, is.reply);
       reached = tt;
+      within = tt;
     }
 
 -- what a query reads
@@ -109,6 +110,7 @@ read_claimed h above s n l name q g next ends called events reads is =
       after_events = λ t e. subst (λ u. claims_heard.AreHeardUpto h u g.place above) (sym e) events;
       right = ((name, q, called, is.answer), is.live);
       reached = is.reached;
+      within = is.within;
     }
 
 -- what becomes of a call at the end of its session
@@ -125,6 +127,7 @@ doubt_claimed h above s n next = record {
   after_events = λ t. tt;
   right = tt;
   reached = tt;
+  within = tt;
 }
 
 lost_claimed : (h : histories.History) (above : List Item) (s n : ℕ) → IsNext h above s n → promises.IsClaimed h above (item.Lost s n)
@@ -140,6 +143,7 @@ lost_claimed h above s n next = record {
   after_events = λ t. tt;
   right = tt;
   reached = tt;
+  within = tt;
 }
 
 pub end_claimed : (h : histories.History) (above : List Item) (s n : ℕ) (u : sequencers.Unanswered) → IsNext h above s u.number → promises.IsClaimed h above (receipts.outcome_at_end s u)
@@ -161,6 +165,7 @@ unsent_claimed h c above s o all ends =
       after_events = λ t. tt;
       right = tt;
       reached = tt;
+      within = tt;
     }
 
 pub called_claimed : (h : histories.History) (c : clients.Client) (above : List Item) (s : ℕ) (w : WindowCall) → (o : standing.IsOwn h c above s) → standing.EndsAbove s above 0 → standing.UnsentAbove s above 0
@@ -177,6 +182,7 @@ called_claimed h c above s w o ends unsent = record {
   after_events = λ t. tt;
   right = tt;
   reached = tt;
+  within = tt;
 }
 
 pub event_claimed : (h : histories.History) (c : clients.Client) (above : List Item) (s p prev : ℕ) (es : List Event) → (o : standing.IsOwn h c above s) → standing.EndsAbove s above 0
@@ -188,6 +194,7 @@ event_claimed h c above s p prev es o ends = record {
   after_events = λ t. tt;
   right = tt;
   reached = tt;
+  within = tt;
 }
 
 pub ended_claimed : (h : histories.History) (c : clients.Client) (above : List Item) (s p : ℕ) (way : How) → (o : standing.IsOwn h c above s) → standing.EndsAbove s above 0 → outcome_order.IsEndOf s way (lists.at_place h p)
@@ -199,6 +206,7 @@ ended_claimed h c above s p way o ends is = record {
   after_events = λ t. tt;
   right = tt;
   reached = tt;
+  within = tt;
 }
 
 is_opening : (c opening : ℕ) (a : Option (ℕ × Act)) → IsOpeningOf c opening a → claims_right.IsOpening c a
@@ -219,6 +227,7 @@ opened_claimed h above s me opening is none = record {
   after_events = λ t. tt;
   right = (is_opening me opening (lists.at_place h s) is, none);
   reached = tt;
+  within = tt;
 }
 
 -- the answer of the first call without an outcome

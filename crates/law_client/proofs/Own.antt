@@ -49,6 +49,7 @@ got_more h above x s k r w None same l g = tt
 got_more h above x s k r (call.Command name o) (Some g) same l t = t
 got_more h above x s k r (call.Query lev name q) (Some g) same l t = record {
   behind = subst (λ m. m ≤ claims_once.dos_upto h s g.place) (sym (same.below r.number l)) t.behind;
+  within = t.within;
   live = t.live;
   last_event = t.last_event;
   answer = t.answer;

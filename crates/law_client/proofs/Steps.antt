@@ -476,6 +476,7 @@ answer_got h c above s number l place events term arrival answer t v u r passes 
     let call_same : r.call ≡ call.Query l t.name t.query = same_call h c above s number r.call (call.Query l t.name t.query) own (subst (λ n. transcripts.StandsIn (item.Called s n r.call) above) is i.called) t.called in
     let read : standing.IsTrueRead h above s r.number l t.name t.query g = record {
       behind = subst (λ n. transcripts.commands_below s n above ≤ claims_once.dos_upto h s place) (sym is) t.behind;
+      within = t.within;
       live = t.live;
       last_event = t.last_event;
       answer = t.answer;

@@ -1,5 +1,5 @@
 -- What the items of a client promise, whatever happens at it, as long as what reaches it is true.
-use Rattle.std.specs.Prelude.{ℕ, ◌≡◌, List, [], ◌∷◌, map}
+use Rattle.std.specs.Prelude.{ℕ, ◌≡◌, ◌≤◌, length, List, [], ◌∷◌, map}
 use Rattle.ax_types.specs.Places as lists
 use Rattle.ax_types.specs.declared.items.Item.{Item}
 use Rattle.ax_types.specs.declared.items.Item.TheVariants as item
@@ -18,6 +18,11 @@ abbrev pub NamesReach : List Item → Item → Type 0
 NamesReach above (item.Read s n l p reach r) = standing.IsReachedBy l above s n p reach
 NamesReach above x = Unit {0}
 
+-- a read's place is one of the history
+abbrev pub IsReadWithin : histories.History → Item → Type 0
+IsReadWithin h (item.Read s n l p reach r) = p ≤ length h
+IsReadWithin h x = Unit {0}
+
 -- what is claimed of one item of a client and the items above it
 pub record IsClaimed (h : histories.History) (above : List Item) (x : Item) : Type 0 where
   pub outcome : (s : ℕ) → outcome_order.IsOutcome s above x
@@ -26,6 +31,7 @@ pub record IsClaimed (h : histories.History) (above : List Item) (x : Item) : Ty
   pub after_events : (s : ℕ) → claims_heard.IsAfterEvents h s above x
   pub right : claims_right.IsRight h above x
   pub reached : NamesReach above x
+  pub within : IsReadWithin h x
 
 -- what holds of the items above and the items of each step of the client
 abbrev pub EachStep : (List Item → List Item → Type 0) → inputs.Seat → List inputs.Happening → Type 0

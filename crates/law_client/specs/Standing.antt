@@ -41,6 +41,7 @@ pub record IsTrueReply (h : histories.History) (s seq : ℕ) (g : Got) : Type 0 
 -- and that of a query is the book's, behind the commands called before it, where the session is live
 pub record IsTrueRead (h : histories.History) (above : List Item) (s n : ℕ) (l : Level) (name : List ℕ) (q : Query) (g : Got) : Type 0 where
   pub behind : transcripts.commands_below s n above ≤ claims_once.dos_upto h s g.place
+  pub within : g.place ≤ length h
   pub live : IsTrue (histories.is_live h g.place s)
   pub last_event : g.events ≡ histories.last_told h s g.place
   pub answer : g.reply ≡ books.ask (histories.book_at h g.place) name q

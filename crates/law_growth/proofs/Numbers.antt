@@ -133,7 +133,7 @@ mapped P f h a zero j x e = none_some x e
 mapped P f h a (suc n) zero x e = subst (λ z. P (a + 0) z) (some_same (f a) x e) (subst (λ z. P z (f a)) (let g : a ≡ a + 0 = omega arith in g) (h a))
 mapped P f h a (suc n) (suc j) x e = subst (λ z. P z x) (let g : suc a + j ≡ a + suc j = omega arith in g) (mapped P f h (suc a) n j x e)
 
-at_cluster : {X : Type 0} (P : ℕ → X → Type 0) (f : ℕ → X) → ((k : ℕ) → P k (f k)) → (n j : ℕ) (x : X) → lists.at_place (map f (majorities.cluster_of n)) j ≡ Some x → P j x
+pub at_cluster : {X : Type 0} (P : ℕ → X → Type 0) (f : ℕ → X) → ((k : ℕ) → P k (f k)) → (n j : ℕ) (x : X) → lists.at_place (map f (majorities.cluster_of n)) j ≡ Some x → P j x
 at_cluster P f h n zero x e = none_some x e
 at_cluster P f h n (suc j) x e = subst (λ i. P i x) (let g : 1 + j ≡ suc j = omega arith in g) (mapped P f h 1 n j x e)
 

@@ -213,7 +213,7 @@ carried_stands n l w p o (plan_cases.Setting k h time at e) all s = subst (λ x.
 carried_stands n l w p o (plan_cases.Seating c x t items at me e) all s = subst (λ x. Stands (ledgers.ledger_in l x o) (moves.carried x o).world) (sym e) (same_stands l w (worlds.with_watcher w c t) refl refl refl s)
 carried_stands n l w p o (plan_cases.Showing v items a e) all s = subst (λ x. Stands (ledgers.ledger_in l x o) (moves.carried x o).world) (sym e) (same_stands l w v a.timeout a.history a.hosts s)
 
-carried_grows : (n : ℕ) (l : ledgers.Ledger) (w : worlds.World) (p : plans.Plan) (o : StepOutcome) → plan_cases.IsCase w p → MatchedAll n l w → once.Begins l.committed (ledgers.ledger_in l p o).committed
+pub carried_grows : (n : ℕ) (l : ledgers.Ledger) (w : worlds.World) (p : plans.Plan) (o : StepOutcome) → plan_cases.IsCase w p → MatchedAll n l w → once.Begins l.committed (ledgers.ledger_in l p o).committed
 carried_grows n l w p o (plan_cases.Serving v k h i a at up known e) all = subst (λ x. once.Begins l.committed (ledgers.ledger_in l x o).committed) (sym e) (served o)
   where
     served : (o : StepOutcome) → once.Begins l.committed (ledgers.ledger_in l (plans.Serves v k h i) o).committed

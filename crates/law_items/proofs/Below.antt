@@ -40,7 +40,7 @@ max_zero n = omega arith
 zero_max : (n : ℕ) → n ≡ max 0 n
 zero_max n = omega arith
 
-greatest_item : (x : Item) (xs : List Item) → transcripts.greatest_commit (x ∷ xs) ≡ max (transcripts.greatest_commit (x ∷ [])) (transcripts.greatest_commit xs)
+pub greatest_item : (x : Item) (xs : List Item) → transcripts.greatest_commit (x ∷ xs) ≡ max (transcripts.greatest_commit (x ∷ [])) (transcripts.greatest_commit xs)
 greatest_item (item.Commit p) xs = let h : max p (transcripts.greatest_commit xs) ≡ max (max p 0) (transcripts.greatest_commit xs) = omega arith in h
 greatest_item (item.Halted xa) xs = zero_max (transcripts.greatest_commit xs)
 greatest_item (item.Opened xa xb) xs = zero_max (transcripts.greatest_commit xs)
@@ -69,7 +69,7 @@ greatest_below above (x ∷ xs) =
     omega (arith, a, b, c)
 
 -- counting
-count_cons : {X : Type 0} (p : X → Bool) (x : X) (xs : List X) → count_by p (x ∷ xs) ≡ cond (p x) 1 0 + count_by p xs
+pub count_cons : {X : Type 0} (p : X → Bool) (x : X) (xs : List X) → count_by p (x ∷ xs) ≡ cond (p x) 1 0 + count_by p xs
 count_cons p x xs =
     let a : count_by p (x ∷ xs) ≡ count_by p (x ∷ []) + count_by p xs = sum_by-append (λ y. cond (p y) 1 0) (x ∷ []) xs in
     let b : count_by p (x ∷ []) ≡ 0 + cond (p x) 1 0 = refl in

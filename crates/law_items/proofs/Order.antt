@@ -41,7 +41,7 @@ use Rattle.law_hosts.proofs.Applied.{SoFar, Stands, Serves, after_serves, serves
 use Rattle.law_items.specs.Ordered as laws
 use Rattle.law_items.proofs.Rules.{IfRead, reached_none, read_term, read_commit}
 use Rattle.law_items.proofs.Tasks.{IfReads, task_reads}
-use Rattle.law_items.proofs.Quiet.{AllQuiet, PlanQuiet, plan_quiet, with_shown}
+use Rattle.law_items.proofs.Quiet.{AllQuiet, PlanQuiet, all_quiet, plan_quiet, with_shown}
 use Rattle.law_items.proofs.Below.{below, each_append, below_append, greatest_below, Covers, covers_at, Shows, shows_quiet, leader_part, commit_part, Reached, IfReached, reach_part}
 use Rattle.law_items.proofs.Leads.{WasLed, AreLed, input_leds, input_takens, carried_led, new_led}
 
@@ -158,9 +158,9 @@ carried_shows n clients time l w p o above (plan_cases.Asking v c x next a at me
 carried_shows n clients time l w p o above (plan_cases.Falling k h at up e) q f leads s = subst (λ x. Part (ledgers.ledger_in l x o) (length (ledgers.ledger_in l x o).committed) above (moves.carried x o).items) (sym e) (tt, s)
 carried_shows n clients time l w p o above (plan_cases.Setting k h t at e) q f leads s = subst (λ x. Part (ledgers.ledger_in l x o) (length (ledgers.ledger_in l x o).committed) above (moves.carried x o).items) (sym e) (tt, s)
 carried_shows n clients time l w p o above (plan_cases.Seating c x t items at me e) q f leads s = subst (λ x. Part (ledgers.ledger_in l x o) (length (ledgers.ledger_in l x o).committed) above (moves.carried x o).items) (sym e)
-    (shows_quiet l.leds l.takens (length l.committed) above items (subst PlanQuiet e q) s)
+    (shows_quiet l.leds l.takens (length l.committed) above items (all_quiet items (subst PlanQuiet e q)) s)
 carried_shows n clients time l w p o above (plan_cases.Showing v items a e) q f leads s = subst (λ x. Part (ledgers.ledger_in l x o) (length (ledgers.ledger_in l x o).committed) above (moves.carried x o).items) (sym e)
-    (shows_quiet l.leds l.takens (length l.committed) above items (subst PlanQuiet e q) s)
+    (shows_quiet l.leds l.takens (length l.committed) above items (all_quiet items (subst PlanQuiet e q)) s)
 
 -- reads that are ready
 is_given : {X : Type 0} (xs ys : List X) → AllByRecursion (λ y. (i : ℕ) × (lists.at_place (xs ++ ys) i ≡ Some y)) ys

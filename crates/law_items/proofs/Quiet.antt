@@ -1,5 +1,5 @@
 -- Items that are of no node: those of clients, of the network, of halts and skips.
-use Rattle.std.proofs.Common.{◌≡◌, ℕ, List, [], ◌∷◌, ◌++◌, map, take, refl}
+use Rattle.std.proofs.Common.{◌≡◌, ℕ, List, [], ◌∷◌, ◌++◌, map, take, refl, sym}
 use Rattle.std.specs.Prelude.{◌≤◌, Bool, true, false, ◌&&◌, Option, Some, None, is_some, flat_map, filter, if◌then◌else◌}
 use Rattle.std.specs.List.{AllByRecursion, list_any}
 use Rattle.ax_types.specs.Places as lists
@@ -88,31 +88,90 @@ quiet (item.Listed xa) e = record { commit = λ xs. refl; leader = λ t. refl; r
 quiet (item.Pending xa xb xc xd) e = record { commit = λ xs. refl; leader = λ t. refl; reach = λ t. refl; order = λ xs. tt; cover = λ ts xs. tt }
 quiet (item.Skip xa) e = record { commit = λ xs. refl; leader = λ t. refl; reach = λ t. refl; order = λ xs. tt; cover = λ ts xs. tt }
 
-all_append : (xs ys : List Item) → AllQuiet xs → AllQuiet ys → AllQuiet (xs ++ ys)
+quiet_append : (xs ys : List Item) → AllQuiet xs → AllQuiet ys → AllQuiet (xs ++ ys)
+quiet_append [] ys h k = k
+quiet_append (x ∷ xs) ys h k = (h.0, quiet_append xs ys h.1 k)
+
+quiet_map : {X : Type 0} (f : X → Item) (xs : List X) → ((x : X) → IsQuiet (f x)) → AllQuiet (map f xs)
+quiet_map f [] h = tt
+quiet_map f (x ∷ xs) h = (h x, quiet_map f xs h)
+
+-- items that are neither of nodes nor of watches
+abbrev pub IsPlain : Item → Type 0
+IsPlain x = laws.is_plain x ≡ true
+
+abbrev pub AllPlain : List Item → Type 0
+AllPlain items = AllByRecursion IsPlain items
+
+plain_quiet : (x : Item) → IsPlain x → IsQuiet x
+plain_quiet (item.Leader xa xb) e = true_false (sym e)
+plain_quiet (item.Commit xa) e = true_false (sym e)
+plain_quiet (item.Reach xa xb xc xd xe) e = true_false (sym e)
+plain_quiet (item.Halted xa) e = refl
+plain_quiet (item.Opened xa xb) e = refl
+plain_quiet (item.Called xa xb xc) e = refl
+plain_quiet (item.Event xa xb xc xd) e = refl
+plain_quiet (item.Watched xa xb xc xd xe) e = refl
+plain_quiet (item.Reply xa xb xc xd) e = refl
+plain_quiet (item.Read xa xb xc xd xe xf) e = refl
+plain_quiet (item.Ended xa xb xc) e = refl
+plain_quiet (item.Doubt xa xb) e = refl
+plain_quiet (item.Lost xa xb) e = refl
+plain_quiet (item.Unsent xa xb) e = refl
+plain_quiet (item.Unanswered xa xb) e = refl
+plain_quiet (item.Listed xa) e = refl
+plain_quiet (item.Pending xa xb xc xd) e = refl
+plain_quiet (item.Skip xa) e = refl
+
+pub all_quiet : (xs : List Item) → AllPlain xs → AllQuiet xs
+all_quiet [] h = tt
+all_quiet (x ∷ xs) h = (plain_quiet x h.0, all_quiet xs h.1)
+
+pub plain_bare : (x : Item) → IsPlain x → claims_heard.is_watched x ≡ false
+plain_bare (item.Halted xa) e = refl
+plain_bare (item.Opened xa xb) e = refl
+plain_bare (item.Called xa xb xc) e = refl
+plain_bare (item.Event xa xb xc xd) e = refl
+plain_bare (item.Watched xa xb xc xd xe) e = true_false (sym e)
+plain_bare (item.Reply xa xb xc xd) e = refl
+plain_bare (item.Read xa xb xc xd xe xf) e = refl
+plain_bare (item.Ended xa xb xc) e = refl
+plain_bare (item.Doubt xa xb) e = refl
+plain_bare (item.Lost xa xb) e = refl
+plain_bare (item.Unsent xa xb) e = refl
+plain_bare (item.Unanswered xa xb) e = refl
+plain_bare (item.Listed xa) e = refl
+plain_bare (item.Pending xa xb xc xd) e = refl
+plain_bare (item.Skip xa) e = refl
+plain_bare (item.Leader xa xb) e = refl
+plain_bare (item.Commit xa) e = refl
+plain_bare (item.Reach xa xb xc xd xe) e = refl
+
+all_append : (xs ys : List Item) → AllPlain xs → AllPlain ys → AllPlain (xs ++ ys)
 all_append [] ys h k = k
 all_append (x ∷ xs) ys h k = (h.0, all_append xs ys h.1 k)
 
-all_map : {X : Type 0} (f : X → Item) (xs : List X) → ((x : X) → IsQuiet (f x)) → AllQuiet (map f xs)
+all_map : {X : Type 0} (f : X → Item) (xs : List X) → ((x : X) → IsPlain (f x)) → AllPlain (map f xs)
 all_map f [] h = tt
 all_map f (x ∷ xs) h = (h x, all_map f xs h)
 
 -- items of clients
 abbrev StepQuiet : clients.ClientStep → Type 0
-StepQuiet next = AllQuiet next.out.items
+StepQuiet next = AllPlain next.out.items
 
-answer : (session : ℕ) (g : Got) (r : clients.Request) (w : WindowCall) → IsQuiet (receipts.answer_item session g r w)
+answer : (session : ℕ) (g : Got) (r : clients.Request) (w : WindowCall) → IsPlain (receipts.answer_item session g r w)
 answer session g r (call.Command name o) = refl
 answer session g r (call.Query l name q) = refl
 
-answer_for : (session : ℕ) (g : Got) (o : Option clients.Request) → AllQuiet (receipts.item_for session g o)
+answer_for : (session : ℕ) (g : Got) (o : Option clients.Request) → AllPlain (receipts.item_for session g o)
 answer_for session g None = tt
 answer_for session g (Some r) = (answer session g r r.call, tt)
 
-answers : (c : clients.Client) (gots : List (ℕ × Got)) → AllQuiet (receipts.items_of c gots)
+answers : (c : clients.Client) (gots : List (ℕ × Got)) → AllPlain (receipts.items_of c gots)
 answers c [] = tt
 answers c (g ∷ gots) = all_append (receipts.item_for (clients.own_session c.state) g.1 (receipts.request c.requests g.0)) (receipts.items_of c gots) (answer_for (clients.own_session c.state) g.1 (receipts.request c.requests g.0)) (answers c gots)
 
-releases : (c : clients.Client) (first : List Item) → AllQuiet first → StepQuiet (receipts.releases c first)
+releases : (c : clients.Client) (first : List Item) → AllPlain first → StepQuiet (receipts.releases c first)
 releases c first h = all_append first (receipts.items_of c (sequencers.release_of c.sequencer).items) h (answers c (sequencers.release_of c.sequencer).items)
 
 gets : (c : clients.Client) (u : Option sequencers.Unanswered) (g : Got) → StepQuiet (receipts.gets c u g)
@@ -124,8 +183,8 @@ batch c node b heard.Old = tt
 batch c node b heard.Taken = releases (record c { sequencer = sequencers.with_heard c.sequencer b }) (item.Event (clients.own_session c.state) b.place b.prev b.events ∷ []) (refl, tt)
 batch c node b (heard.Missing h) = tt
 
-lost : (session : ℕ) (u : sequencers.Unanswered) → IsQuiet (receipts.outcome_at_end session u)
-lost session u = by_test IsQuiet (sequencers.is_query u) (item.Lost session u.number) (item.Doubt session u.number) (λ e. refl) (λ e. refl)
+lost : (session : ℕ) (u : sequencers.Unanswered) → IsPlain (receipts.outcome_at_end session u)
+lost session u = by_test IsPlain (sequencers.is_query u) (item.Lost session u.number) (item.Doubt session u.number) (λ e. refl) (λ e. refl)
 
 receives : (c : clients.Client) (node : ℕ) (p : Payload) → StepQuiet (receipts.receives c node p)
 receives c node (payload.Opened opening session) = by_test StepQuiet (clients.is_opening c.state && sequencers.accepts c.switch opening) (receipts.takes_opened c session) (clients.ignores c) (λ e. (refl, tt)) (λ e. tt)
@@ -156,7 +215,7 @@ receives c node (payload.Reset a b d) = tt
 -- with what its watches show
 watched : (c s p : ℕ) (es : List Event) (kinds : List WatchKind) → AllQuiet (flat_map (claims_heard.watched_by c s p es) kinds)
 watched c s p es [] = tt
-watched c s p es (k ∷ kinds) = all_append (claims_heard.watched_by c s p es k) (flat_map (claims_heard.watched_by c s p es) kinds) (all_map (λ e. item.Watched c k s p e) (filter (claims_heard.holds k) es) (λ e. refl)) (watched c s p es kinds)
+watched c s p es (k ∷ kinds) = quiet_append (claims_heard.watched_by c s p es k) (flat_map (claims_heard.watched_by c s p es) kinds) (quiet_map (λ e. item.Watched c k s p e) (filter (claims_heard.holds k) es) (λ e. refl)) (watched c s p es kinds)
 
 shown : (c : ℕ) (kinds : List WatchKind) (x : Item) → AllQuiet (moves.shown_below c kinds x)
 shown c kinds (item.Leader xa xb) = tt
@@ -178,16 +237,16 @@ shown c kinds (item.Listed xa) = tt
 shown c kinds (item.Pending xa xb xc xd) = tt
 shown c kinds (item.Skip xa) = tt
 
-pub with_shown : (c : ℕ) (kinds : List WatchKind) (items : List Item) → AllQuiet items → AllQuiet (moves.with_shown c kinds items)
+pub with_shown : (c : ℕ) (kinds : List WatchKind) (items : List Item) → AllPlain items → AllQuiet (moves.with_shown c kinds items)
 with_shown c kinds [] h = tt
-with_shown c kinds (x ∷ items) h = all_append (x ∷ moves.shown_below c kinds x) (moves.with_shown c kinds items) (h.0, shown c kinds x) (with_shown c kinds items h.1)
+with_shown c kinds (x ∷ items) h = quiet_append (x ∷ moves.shown_below c kinds x) (moves.with_shown c kinds items) (plain_quiet x h.0, shown c kinds x) (with_shown c kinds items h.1)
 
 -- what a step asks for shows no item of a node but a server's
 abbrev pub PlanQuiet : plans.Plan → Type 0
 PlanQuiet (plans.Serves w k h i) = Unit {0}
 PlanQuiet (plans.Loads w k h) = Unit {0}
 PlanQuiet (plans.Asks w c s next) = StepQuiet next
-PlanQuiet (plans.Shows w items) = AllQuiet items
+PlanQuiet (plans.Shows w items) = AllPlain items
 
 elects : (w : worlds.World) (k : ℕ) (o : Option worlds.Host) → PlanQuiet (plans.elects w k o)
 elects w k None = tt

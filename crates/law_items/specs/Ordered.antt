@@ -21,6 +21,14 @@ is_of_nodes (item.Commit p) = true
 is_of_nodes (item.Reach k t a s n) = true
 is_of_nodes x = false
 
+-- whether an item is neither one of nodes nor one that a watch shows
+abbrev pub is_plain : Item → Bool
+is_plain (item.Leader k t) = false
+is_plain (item.Commit p) = false
+is_plain (item.Reach k t a s n) = false
+is_plain (item.Watched c kind s p e) = false
+is_plain x = true
+
 abbrev pub NodeItemsAreOrdered : Type 0
 NodeItemsAreOrdered = (nodes clients timeout : ℕ) (steps : List KeptStep) → transcripts.EachItem IsInOrder (transcripts.transcript (runs.run nodes clients timeout steps).shown)
 

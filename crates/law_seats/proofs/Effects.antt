@@ -169,7 +169,7 @@ reaches : (w v : worlds.World) (q : Packet) (e : End) → v.seats ≡ w.seats �
 reaches w v q (end.Node k) same among to = reaches_node w v k q (lists.at_place v.hosts k) same
 reaches w v q (end.Client c) same among to = receives w v c q q.«from» (lists.at_place v.seats c) same (ap (λ seats. lists.at_place seats c) (sym same)) among to
 
-among_at : (bag : bags.Bag) (number : ℕ) (s : bags.KeptPacket) → bags.kept_at bag number ≡ Some s → IsAmong s.packet (plan_cases.kept_packets bag)
+pub among_at : (bag : bags.Bag) (number : ℕ) (s : bags.KeptPacket) → bags.kept_at bag number ≡ Some s → IsAmong s.packet (plan_cases.kept_packets bag)
 among_at bag number s e = at_among bag.kept (number - bags.gone bag) e
   where
     get_among : (xs : List bags.KeptPacket) (k : ℕ) → slice_get xs k ≡ Some s → IsAmong s.packet (map (λ (x : bags.KeptPacket). x.packet) xs)

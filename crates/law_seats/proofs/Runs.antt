@@ -33,7 +33,7 @@ record RanSo (h : histories.History) (w : worlds.World) (above : List Item) (ste
   claimed : transcripts.EachBelow (promises.IsClaimed h) above (transcripts.transcript (runs.ran w steps).shown)
   ends : outcome_order.EndsFrom above (runs.ran w steps).shown
 
-each_append : (P : List Item → Item → Type 0) (above xs ys : List Item) → transcripts.EachBelow P above xs → transcripts.EachBelow P (reverse xs ++ above) ys → transcripts.EachBelow P above (xs ++ ys)
+pub each_append : (P : List Item → Item → Type 0) (above xs ys : List Item) → transcripts.EachBelow P above xs → transcripts.EachBelow P (reverse xs ++ above) ys → transcripts.EachBelow P above (xs ++ ys)
 each_append P above [] ys a b = b
 each_append P above (x ∷ xs) ys a b = (a.0, each_append P (x ∷ above) xs ys a.1 (subst (λ zs. transcripts.EachBelow P zs ys) (reverse_onto x xs above) b))
 
@@ -61,7 +61,7 @@ map_found : {X Y : Type 0} (f : X → Y) (xs : List X) (p : ℕ) (y : Y) → lis
 map_found f xs zero y e = absurd (cc)
 map_found f xs (suc k) y e = map_got f xs k y e
 
-new_stand : (h : histories.History) (nodes clients timeout : ℕ) → seats.AllStand h (worlds.new_world nodes clients timeout) []
+pub new_stand : (h : histories.History) (nodes clients timeout : ℕ) → seats.AllStand h (worlds.new_world nodes clients timeout) []
 new_stand h nodes clients timeout = record {
   numbers = (new_numbers nodes clients timeout).numbers.seats;
   stand = λ c s e.
@@ -92,7 +92,7 @@ heard_by_one h w items s k o =
     ap (λ xs. claims_heard.heard s xs) (sym (unwatched_reverse (reverse items)) ∙ ap seats.unwatched (reverse-reverse items)) ∙ heard_same s items in
     (b.0, b.1 ∙ ap (λ xs. xs ++ b.0) same)
 
-heard_all : (h : histories.History) (w : worlds.World) (items : List Item) (s : ℕ) → seats.AllStand h w (reverse items) → (a : Option (ℕ × Act)) → lists.at_place h s ≡ a
+pub heard_all : (h : histories.History) (w : worlds.World) (items : List Item) (s : ℕ) → seats.AllStand h w (reverse items) → (a : Option (ℕ × Act)) → lists.at_place h s ≡ a
     → claims_once.Begins (claims_heard.heard s items) (histories.events h s)
 heard_all h w items s k None e = heard_by_none h w items s k (λ o. subst (payloads.IsOpeningOf o.client o.opening) e o.opened)
 heard_all h w items s k (Some (t, act.Open c p)) e = by_found (lists.at_place w.seats c) refl

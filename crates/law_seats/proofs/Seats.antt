@@ -31,26 +31,26 @@ use Rattle.law_seats.specs.Seats as seats
 use Rattle.law_seats.proofs.Unwatched.{unwatched_reverse, unwatched_shown, all_unwatched, aside_claimed, aside_ends, shown_claimed, shown_ends, true_down, watched_aside, none_in}
 use Rattle.law_seats.proofs.Effects.{Effect, Aside, Acts, Watches, AreAside, MayCome, effect_of}
 
-abbrev seat_at : clients.Client → List Item → inputs.Seat
+abbrev pub seat_at : clients.Client → List Item → inputs.Seat
 seat_at c above = record { client = c; above = above }
 
-unwatched_more : (items above : List Item) → seats.unwatched (reverse items ++ above) ≡ reverse (seats.unwatched items) ++ seats.unwatched above
+pub unwatched_more : (items above : List Item) → seats.unwatched (reverse items ++ above) ≡ reverse (seats.unwatched items) ++ seats.unwatched above
 unwatched_more items above = filter-append (λ y. not (claims_heard.is_watched y)) (reverse items) above ∙ ap (λ ys. ys ++ seats.unwatched above) (unwatched_reverse items)
 
 -- items of others, one after the other
-others_all : (h : histories.History) (c : clients.Client) (above items : List Item) → standing.Stands h (seat_at c above) → AllByRecursion (λ x. inputs.IsOfOthers c.me h (inputs.session_in x)) items
+pub others_all : (h : histories.History) (c : clients.Client) (above items : List Item) → standing.Stands h (seat_at c above) → AllByRecursion (λ x. inputs.IsOfOthers c.me h (inputs.session_in x)) items
     → standing.Stands h (seat_at c (reverse items ++ above))
 others_all h c above [] k a = k
 others_all h c above (x ∷ items) k a =
     subst (λ ys. standing.Stands h (seat_at c ys)) (sym (reverse_onto x items above)) (others_all h c (x ∷ above) items (others_keep h c above x k a.0) a.1)
 
-others_below : (h : histories.History) (c : clients.Client) (above items : List Item) → standing.Stands h (seat_at c (seats.unwatched above)) → AllByRecursion (λ x. inputs.IsOfOthers c.me h (inputs.session_in x)) items
+pub others_below : (h : histories.History) (c : clients.Client) (above items : List Item) → standing.Stands h (seat_at c (seats.unwatched above)) → AllByRecursion (λ x. inputs.IsOfOthers c.me h (inputs.session_in x)) items
     → standing.Stands h (seat_at c (seats.unwatched (reverse items ++ above)))
 others_below h c above items k a =
     subst (λ ys. standing.Stands h (seat_at c ys)) (sym (unwatched_more items above))
     (others_all h c (seats.unwatched above) (seats.unwatched items) k (all_unwatched (λ x. inputs.IsOfOthers c.me h (inputs.session_in x)) items a))
 
-aside_others : (me : ℕ) (h : histories.History) (items : List Item) → AreAside items → AllByRecursion (λ x. inputs.IsOfOthers me h (inputs.session_in x)) items
+pub aside_others : (me : ℕ) (h : histories.History) (items : List Item) → AreAside items → AllByRecursion (λ x. inputs.IsOfOthers me h (inputs.session_in x)) items
 aside_others me h items a = all_since (λ x. inputs.session_in x ≡ None) (λ x. inputs.IsOfOthers me h (inputs.session_in x)) (λ x e. subst (inputs.IsOfOthers me h) (sym e) tt) items a
 
 aside_owned : (h : histories.History) (ss : List worlds.Watcher) (items : List Item) → AreAside items → AllByRecursion (λ x. seats.IsOfSeats h ss (inputs.session_in x)) items
@@ -61,10 +61,10 @@ all_reversed P [] a = tt
 all_reversed P (x ∷ xs) a = subst (AllByRecursion P) (sym (reverse_more x xs)) (all_append P (reverse xs) (x ∷ []) (all_reversed P xs a.1) (a.0, tt))
 
 -- a changed seat
-found_here : (ss : List worlds.Watcher) (c : ℕ) (s t : worlds.Watcher) → lists.at_place ss c ≡ Some s → lists.at_place (positions.change_place (λ old. t) ss c) c ≡ Some t
+pub found_here : (ss : List worlds.Watcher) (c : ℕ) (s t : worlds.Watcher) → lists.at_place ss c ≡ Some s → lists.at_place (positions.change_place (λ old. t) ss c) c ≡ Some t
 found_here ss c s t e = at_place-changed (λ old. t) ss c ∙ ap (option_map (λ old. t)) e
 
-found_there : (ss : List worlds.Watcher) (c d : ℕ) (t : worlds.Watcher) → (c ≡ d → ⊥) → lists.at_place (positions.change_place (λ old. t) ss c) d ≡ lists.at_place ss d
+pub found_there : (ss : List worlds.Watcher) (c d : ℕ) (t : worlds.Watcher) → (c ≡ d → ⊥) → lists.at_place (positions.change_place (λ old. t) ss c) d ≡ lists.at_place ss d
 found_there ss c d t n = at_place-others (λ old. t) ss c d n
 
 owned_since : (h : histories.History) (ss : List worlds.Watcher) (c : ℕ) (s t : worlds.Watcher) → lists.at_place ss c ≡ Some s → (u : Option ℕ) → seats.IsOfSeats h ss u
@@ -88,7 +88,7 @@ by_seat P ss c s t is here there d u e = ⊎_elim
     (on_or_off (nat_eq c d))
 
 -- a client's items are none that a watch shows
-own_unwatched : (me : ℕ) (h : histories.History) (below items : List Item) → AllByRecursion (λ x. standing.IsOfOwn me h below (inputs.session_in x)) items → AllByRecursion (λ x. claims_heard.is_watched x ≡ false) items
+pub own_unwatched : (me : ℕ) (h : histories.History) (below items : List Item) → AllByRecursion (λ x. standing.IsOfOwn me h below (inputs.session_in x)) items → AllByRecursion (λ x. claims_heard.is_watched x ≡ false) items
 own_unwatched me h below [] a = tt
 own_unwatched me h below (x ∷ items) a = (not_watched x a.0, own_unwatched me h below items a.1)
   where
@@ -97,7 +97,7 @@ own_unwatched me h below (x ∷ items) a = (not_watched x a.0, own_unwatched me 
     not_watched y o = refl
 
 -- the items that are shown, each the client's or one of a watch
-shown_each : (P : Option ℕ → Type 0) → P None → (c : ℕ) (watches : List WatchKind) (items : List Item) → AllByRecursion (λ x. P (inputs.session_in x)) items
+pub shown_each : (P : Option ℕ → Type 0) → P None → (c : ℕ) (watches : List WatchKind) (items : List Item) → AllByRecursion (λ x. P (inputs.session_in x)) items
     → AllByRecursion (λ x. P (inputs.session_in x)) (moves.with_shown c watches items)
 shown_each P none c watches [] a = tt
 shown_each P none c watches (x ∷ items) a =
@@ -107,7 +107,7 @@ shown_each P none c watches (x ∷ items) a =
           (all_since (λ y. claims_heard.is_watched y ≡ true) (λ y. P (inputs.session_in y)) (λ y w. subst P (sym (none_in y w)) none) below (watched_aside c watches x)) (shown_each P none c watches items a.1),
     )
 
-own_others : (h : histories.History) (me other : ℕ) (below : List Item) (t : Option ℕ) → (me ≡ other → ⊥) → standing.IsOfOwn me h below t → inputs.IsOfOthers other h t
+pub own_others : (h : histories.History) (me other : ℕ) (below : List Item) (t : Option ℕ) → (me ≡ other → ⊥) → standing.IsOfOwn me h below t → inputs.IsOfOthers other h t
 own_others h me other below None n o = tt
 own_others h me other below (Some s) n o = record { client = me; opening = o.opening; opened = o.opened; other = λ e. n (sym e) }
 
@@ -121,7 +121,7 @@ told_among h w above q (p ∷ ps) a (inl e) = subst (λ (x : Packet). seats.IsTo
 told_among h w above q (p ∷ ps) a (inr b) = told_among h w above q ps a.1 b
 
 -- an input that comes may reach the client
-may_reach : (h : histories.History) (w : worlds.World) (above : List Item) (c : ℕ) (s : worlds.Watcher) (i : inputs.Input) → lists.at_place w.seats c ≡ Some s → s.client.me ≡ c → MayCome w c i → seats.AreTrueKept h w above
+pub may_reach : (h : histories.History) (w : worlds.World) (above : List Item) (c : ℕ) (s : worlds.Watcher) (i : inputs.Input) → lists.at_place w.seats c ≡ Some s → s.client.me ≡ c → MayCome w c i → seats.AreTrueKept h w above
     → inputs.MayReach h (seats.seat_below above s) i
 may_reach h w above c s (inputs.Receives node p) is me m told =
     let t : seats.IsTold h w above m.0.payload m.0.to = told_among h w above m.0 (plan_cases.kept_packets w.bag) told m.1 in

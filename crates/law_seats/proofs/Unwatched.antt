@@ -95,7 +95,7 @@ all_unwatched P (x ∷ xs) a = ⊎_elim
     (λ e. subst (AllByRecursion P) (sym (keeps_it x xs e)) (a.0, all_unwatched P xs a.1))
     (on_or_off (claims_heard.is_watched x))
 
-stands_up : (x : Item) (xs : List Item) → transcripts.StandsIn x (unwatched xs) → transcripts.StandsIn x xs
+pub stands_up : (x : Item) (xs : List Item) → transcripts.StandsIn x (unwatched xs) → transcripts.StandsIn x xs
 stands_up x [] a = absurd a
 stands_up x (y ∷ ys) a = ⊎_elim
     (λ e. inr (stands_up x ys (subst (transcripts.StandsIn x) (drops_it y ys e) a)))
@@ -115,7 +115,7 @@ commit_same [] = refl
 commit_same (item.Commit p ∷ xs) = ap (λ k. max p k) (commit_same xs)
 commit_same (x ∷ xs) = commit_same xs
 
-calls_same : (s : ℕ) (xs : List Item) → transcripts.calls s (unwatched xs) ≡ transcripts.calls s xs
+pub calls_same : (s : ℕ) (xs : List Item) → transcripts.calls s (unwatched xs) ≡ transcripts.calls s xs
 calls_same s xs = flat_same (transcripts.called_by s) (λ x e. (shows_nothing s x e).called) xs
 
 pub heard_same : (s : ℕ) (xs : List Item) → claims_heard.heard s (unwatched xs) ≡ claims_heard.heard s xs
@@ -173,7 +173,7 @@ reached_down : (l : Level) (above : List Item) (s n p t a : ℕ) → payloads.Is
 reached_down level.Lin above s n p t a r = arrives_down above s n p t a r
 reached_down level.Seq above s n p t a r = r
 
-below_same : (s n : ℕ) (xs : List Item) → transcripts.commands_below s n (unwatched xs) ≡ transcripts.commands_below s n xs
+pub below_same : (s n : ℕ) (xs : List Item) → transcripts.commands_below s n (unwatched xs) ≡ transcripts.commands_below s n xs
 below_same s n xs = ap (λ cs. count_by (λ c. transcripts.is_command c.1 && nat_lt c.0 n) cs) (calls_same s xs)
 
 upto_same : (s n : ℕ) (xs : List Item) → transcripts.commands_upto s n (unwatched xs) ≡ transcripts.commands_upto s n xs
@@ -300,18 +300,19 @@ claim_up h above x c = record {
   after_events = λ s. after_up h s above x (c.after_events s);
   right = right_up h above x c.right;
   reached = names_up above x c.reached;
+  within = c.within;
 }
 
 -- what is of no session is claimed nothing
 pub aside_claimed : (h : histories.History) (above : List Item) (x : Item) → inputs.session_in x ≡ None → promises.IsClaimed h above x
-aside_claimed h above (item.Leader k t) e = record { outcome = λ s. (tt, tt, tt, tt); in_session = λ s. tt; growing = λ s. tt; after_events = λ s. tt; right = tt; reached = tt }
-aside_claimed h above (item.Commit p) e = record { outcome = λ s. (tt, tt, tt, tt); in_session = λ s. tt; growing = λ s. tt; after_events = λ s. tt; right = tt; reached = tt }
-aside_claimed h above (item.Reach k t a s n) e = record { outcome = λ u. (tt, tt, tt, tt); in_session = λ u. tt; growing = λ u. tt; after_events = λ u. tt; right = tt; reached = tt }
-aside_claimed h above (item.Halted k) e = record { outcome = λ s. (tt, tt, tt, tt); in_session = λ s. tt; growing = λ s. tt; after_events = λ s. tt; right = tt; reached = tt }
-aside_claimed h above (item.Watched c kind t p v) e = record { outcome = λ s. (tt, tt, tt, tt); in_session = λ s. tt; growing = λ s. tt; after_events = λ s. tt; right = tt; reached = tt }
-aside_claimed h above (item.Listed n) e = record { outcome = λ s. (tt, tt, tt, tt); in_session = λ s. tt; growing = λ s. tt; after_events = λ s. tt; right = tt; reached = tt }
-aside_claimed h above (item.Pending n f t k) e = record { outcome = λ s. (tt, tt, tt, tt); in_session = λ s. tt; growing = λ s. tt; after_events = λ s. tt; right = tt; reached = tt }
-aside_claimed h above (item.Skip r) e = record { outcome = λ s. (tt, tt, tt, tt); in_session = λ s. tt; growing = λ s. tt; after_events = λ s. tt; right = tt; reached = tt }
+aside_claimed h above (item.Leader k t) e = record { outcome = λ s. (tt, tt, tt, tt); in_session = λ s. tt; growing = λ s. tt; after_events = λ s. tt; right = tt; reached = tt; within = tt }
+aside_claimed h above (item.Commit p) e = record { outcome = λ s. (tt, tt, tt, tt); in_session = λ s. tt; growing = λ s. tt; after_events = λ s. tt; right = tt; reached = tt; within = tt }
+aside_claimed h above (item.Reach k t a s n) e = record { outcome = λ u. (tt, tt, tt, tt); in_session = λ u. tt; growing = λ u. tt; after_events = λ u. tt; right = tt; reached = tt; within = tt }
+aside_claimed h above (item.Halted k) e = record { outcome = λ s. (tt, tt, tt, tt); in_session = λ s. tt; growing = λ s. tt; after_events = λ s. tt; right = tt; reached = tt; within = tt }
+aside_claimed h above (item.Watched c kind t p v) e = record { outcome = λ s. (tt, tt, tt, tt); in_session = λ s. tt; growing = λ s. tt; after_events = λ s. tt; right = tt; reached = tt; within = tt }
+aside_claimed h above (item.Listed n) e = record { outcome = λ s. (tt, tt, tt, tt); in_session = λ s. tt; growing = λ s. tt; after_events = λ s. tt; right = tt; reached = tt; within = tt }
+aside_claimed h above (item.Pending n f t k) e = record { outcome = λ s. (tt, tt, tt, tt); in_session = λ s. tt; growing = λ s. tt; after_events = λ s. tt; right = tt; reached = tt; within = tt }
+aside_claimed h above (item.Skip r) e = record { outcome = λ s. (tt, tt, tt, tt); in_session = λ s. tt; growing = λ s. tt; after_events = λ s. tt; right = tt; reached = tt; within = tt }
 aside_claimed h above (item.Opened s c) e = absurd (some_none s e)
 aside_claimed h above (item.Called s n w) e = absurd (some_none s e)
 aside_claimed h above (item.Event s p prev es) e = absurd (some_none s e)
