@@ -377,10 +377,10 @@ carried_before nodes clients time h l w early s p o (plan_cases.Seating c x t it
 carried_before nodes clients time h l w early s p o (plan_cases.Showing v items a e) q f = subst (λ y. IfRequested time h l early s y o) (sym e) (λ g asked. each_quiet (once.IsCalledBefore h s) (quiet_before h s) (reverse early) items (all_quiet items (subst PlanQuiet e q)))
 
 -- of a step: from what holds before it, and from what the requests say after it
-pub step_called : (nodes clients time : ℕ) (h : histories.History) (l : ledgers.Ledger) (w : worlds.World) (early : List Item) (k : KeptStep) → faith.Holds nodes clients time h l w early → transcripts.EachBelow IsReachCalled (reverse early) (moves.moved w k).items
+pub step_called : (nodes clients time : ℕ) (h : histories.History) (l : ledgers.Ledger) (w : worlds.World) (early : List Item) (k : KeptStep) → faith.RunStands nodes clients time h l w early → transcripts.EachBelow IsReachCalled (reverse early) (moves.moved w k).items
 step_called nodes clients time h l w early k x = carried_called w early (plans.plan w k.step) k.outcome (plan_case w k.step) (plan_quiet w k.step) x.requests.queries
 
-pub step_before : (nodes clients time : ℕ) (h g : histories.History) (l : ledgers.Ledger) (w : worlds.World) (early : List Item) (k : KeptStep) → faith.Holds nodes clients time g l w early → once.Begins (moves.moved w k).world.history h
+pub step_before : (nodes clients time : ℕ) (h g : histories.History) (l : ledgers.Ledger) (w : worlds.World) (early : List Item) (k : KeptStep) → faith.RunStands nodes clients time g l w early → once.Begins (moves.moved w k).world.history h
     → faith.RequestsStand (ledgers.ledger_by l w k) (moves.moved w k).world (early ++ (moves.moved w k).items) → (s : ℕ) → transcripts.EachBelow (once.IsCalledBefore h s) (reverse early) (moves.moved w k).items
 step_before nodes clients time h g l w early k x b z s =
     let m = step_so_far nodes clients time l w k x.so_far in

@@ -27,7 +27,7 @@ pub record AreMarked (h : histories.History) (above items : List Item) : Type 0 
   pub before : (s : ℕ) → transcripts.EachBelow (once.IsCalledBefore h s) above items
 
 pub step_marks : (nodes clients time : ℕ) (h : histories.History) (l : ledgers.Ledger) (w : worlds.World) (early : List Item) (k : KeptStep)
-    → ((g : histories.History) → once.Begins w.history g → faith.Holds nodes clients time g l w early) → once.Begins (moves.moved w k).world.history h → AreMarked h (reverse early) (moves.moved w k).items
+    → ((g : histories.History) → once.Begins w.history g → faith.RunStands nodes clients time g l w early) → once.Begins (moves.moved w k).world.history h → AreMarked h (reverse early) (moves.moved w k).items
 step_marks nodes clients time h l w early k all b =
     let step : once.Begins w.history (moves.moved w k).world.history = history_follows w k in
     let on : once.Begins w.history h = (step.0 ++ b.0, b.1 ∙ ap (λ hs. hs ++ b.0) step.1 ∙ append_assoc w.history step.0 b.0) in

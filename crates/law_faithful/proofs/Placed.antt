@@ -99,7 +99,7 @@ stands_later : (x : Item) (xs ys : List Item) → transcripts.StandsIn x ys → 
 stands_later x [] ys i = i
 stands_later x (y ∷ xs) ys i = inr (stands_later x xs ys i)
 
-pub step_committed : (nodes clients time : ℕ) (l : ledgers.Ledger) (w : worlds.World) (early : List Item) (k : KeptStep) → faith.Holds nodes clients time w.history l w early → transcripts.EachBelow claims_right.IsCommitted (reverse early) (moves.moved w k).items
+pub step_committed : (nodes clients time : ℕ) (l : ledgers.Ledger) (w : worlds.World) (early : List Item) (k : KeptStep) → faith.RunStands nodes clients time w.history l w early → transcripts.EachBelow claims_right.IsCommitted (reverse early) (moves.moved w k).items
 step_committed nodes clients time l w early k x =
     let h : histories.History = w.history in
     let m : moves.Moved = moves.moved w k in

@@ -57,7 +57,7 @@ no_led : (i : ℕ) (d : clusters.Led) → lists.at_place [] i ≡ Some d → ⊥
 no_led zero d e = cc (e)
 no_led (suc i) d e = cc (e)
 
-new_holds : (nodes clients time : ℕ) (h : histories.History) → faith.Holds nodes clients time h ledgers.new_ledger (worlds.new_world nodes clients time) []
+new_holds : (nodes clients time : ℕ) (h : histories.History) → faith.RunStands nodes clients time h ledgers.new_ledger (worlds.new_world nodes clients time) []
 new_holds nodes clients time h = record {
   so_far = new_so_far nodes clients time;
   led = new_led [] nodes clients time;
@@ -73,7 +73,7 @@ new_holds nodes clients time h = record {
 
 -- what holds in the world after some steps, whatever history goes on from there
 abbrev pub HoldsOn : (nodes clients time : ℕ) (l : ledgers.Ledger) (w : worlds.World) (early : List Item) → Type 0
-HoldsOn nodes clients time l w early = (h : histories.History) → once.Begins w.history h → faith.Holds nodes clients time h l w early
+HoldsOn nodes clients time l w early = (h : histories.History) → once.Begins w.history h → faith.RunStands nodes clients time h l w early
 
 begins_on : (a b c : histories.History) → once.Begins a b → once.Begins b c → once.Begins a c
 begins_on a b c x y = (x.0 ++ y.0, y.1 ∙ ap (λ hs. hs ++ y.0) x.1 ∙ append_assoc a x.0 y.0)
@@ -116,7 +116,7 @@ pub record RunHolds (h : histories.History) (w : worlds.World) (early : List Ite
 onward : (P : List Item → Item → Type 0) (early xs ys : List Item) → transcripts.EachBelow P (reverse early) xs → transcripts.EachBelow P (reverse (early ++ xs)) ys → transcripts.EachBelow P (reverse early) (xs ++ ys)
 onward P early xs ys h k = each_append P (reverse early) xs ys h (subst (λ above. transcripts.EachBelow P above ys) (sym (below_early early xs)) k)
 
-begins_commands : (nodes clients time : ℕ) (h : histories.History) (l : ledgers.Ledger) (w : worlds.World) (early : List Item) → faith.Holds nodes clients time h l w early → (s : ℕ) → once.Begins (map (λ d. d.1) (histories.dos w.history s)) (once.commands s early)
+begins_commands : (nodes clients time : ℕ) (h : histories.History) (l : ledgers.Ledger) (w : worlds.World) (early : List Item) → faith.RunStands nodes clients time h l w early → (s : ℕ) → once.Begins (map (λ d. d.1) (histories.dos w.history s)) (once.commands s early)
 begins_commands nodes clients time h l w early x s =
     subst (λ g. once.Begins (map (λ d. d.1) (histories.dos g s)) (once.commands s early)) (sym x.so_far.stands.history) (acts_begin_commands w.timeout l.committed s (once.commands s early) (x.requests.commands s))
 

@@ -78,7 +78,7 @@ each_more P early xs h k = each_append P [] early xs h (subst (λ above. transcr
 
 -- what is known before a step
 abbrev pub Before : (nodes clients time : ℕ) (h : histories.History) (l : ledgers.Ledger) (w : worlds.World) (early : List Item) → Type 0
-Before nodes clients time h l w early = faith.Holds nodes clients time h l w early
+Before nodes clients time h l w early = faith.RunStands nodes clients time h l w early
 
 pub true_kept : (nodes clients time : ℕ) (h : histories.History) (l : ledgers.Ledger) (w : worlds.World) (early : List Item) → Before nodes clients time h l w early → seats.AreTrueKept h w (reverse early)
 true_kept nodes clients time h l w early x = go (plan_cases.kept_packets w.bag) x.told x.requests.ends
@@ -132,7 +132,7 @@ right_input w early its k x (input.Packet clock p) n q known =
 option_some : (o : Option Item) (x : Item) → o ≡ Some x → moves.option_item o ≡ x ∷ []
 option_some o x e = ap moves.option_item e
 
-serves_true : (nodes clients time : ℕ) (h : histories.History) (l : ledgers.Ledger) (w v : worlds.World) (early : List Item) (k : ℕ) (x : worlds.Host) (i : ServerInput) → faith.Holds nodes clients time h l w early
+serves_true : (nodes clients time : ℕ) (h : histories.History) (l : ledgers.Ledger) (w v : worlds.World) (early : List Item) (k : ℕ) (x : worlds.Host) (i : ServerInput) → faith.RunStands nodes clients time h l w early
     → truths.AreCallsNumbered (early ++ moves.server_items v k (server_steps.server_out x.server i)) → plan_cases.IsAlike w v → lists.at_place w.hosts k ≡ Some x → x.is_up ≡ true → plan_cases.IsInputOf w k x i
     → true_steps.IsTrueStep time (reverse (early ++ moves.server_items v k (server_steps.server_out x.server i))) (ledgers.with_input l k x.server.raft (servers.task x.server i).input).committed x.server i
 serves_true nodes clients time h l w v early k x i y numbered a at up known =
@@ -167,7 +167,7 @@ one_changed : (time : ℕ) (above : List Item) (committed : List Entry) (v : wor
     → AreTrueServers time above committed (worlds.with_host v k x).hosts
 one_changed time above committed v k x new f = placed (λ j y. y.is_up ≡ true → true_servers.IsTrueServer time above committed y.server) v.hosts k x new f
 
-carried_servers : (nodes clients time : ℕ) (h : histories.History) (l : ledgers.Ledger) (w : worlds.World) (early : List Item) (p : plans.Plan) (o : StepOutcome) → plan_cases.IsCase w p → faith.Holds nodes clients time h l w early
+carried_servers : (nodes clients time : ℕ) (h : histories.History) (l : ledgers.Ledger) (w : worlds.World) (early : List Item) (p : plans.Plan) (o : StepOutcome) → plan_cases.IsCase w p → faith.RunStands nodes clients time h l w early
     → truths.AreCallsNumbered (early ++ (moves.carried p o).items) → AreTrueServers time (reverse (early ++ (moves.carried p o).items)) (ledgers.ledger_in l p o).committed (moves.carried p o).world.hosts
 carried_servers nodes clients time h l w early p o (plan_cases.Serving v k x i a at up known e) y numbered =
     subst (λ z. truths.AreCallsNumbered (early ++ (moves.carried z o).items) → AreTrueServers time (reverse (early ++ (moves.carried z o).items)) (ledgers.ledger_in l z o).committed (moves.carried z o).world.hosts) (sym e) (served o) numbered
@@ -248,7 +248,7 @@ abbrev ToldBy : ℕ → ℕ → ℕ → histories.History → ledgers.Ledger →
 ToldBy nodes clients time h l w early o z = truths.AreCallsNumbered (early ++ (moves.carried z o).items) → SoFar nodes clients time (ledgers.ledger_in l z o) (moves.carried z o).world → once.Begins (moves.carried z o).world.history h
     → AreTold (reverse (early ++ (moves.carried z o).items)) h (plan_cases.kept_packets (moves.carried z o).world.bag)
 
-carried_told : (nodes clients time : ℕ) (h : histories.History) (l : ledgers.Ledger) (w : worlds.World) (early : List Item) (p : plans.Plan) (o : StepOutcome) → plan_cases.IsCase w p → faith.Holds nodes clients time h l w early → ToldBy nodes clients time h l w early o p
+carried_told : (nodes clients time : ℕ) (h : histories.History) (l : ledgers.Ledger) (w : worlds.World) (early : List Item) (p : plans.Plan) (o : StepOutcome) → plan_cases.IsCase w p → faith.RunStands nodes clients time h l w early → ToldBy nodes clients time h l w early o p
 carried_told nodes clients time h l w early p o (plan_cases.Serving v k x i a at up known e) y = subst (ToldBy nodes clients time h l w early o) (sym e) (served o)
   where
     out : ServerOut
@@ -288,8 +288,8 @@ carried_told nodes clients time h l w early p o (plan_cases.Setting k x t at e) 
 carried_told nodes clients time h l w early p o (plan_cases.Seating c s t its at me e) y = subst (ToldBy nodes clients time h l w early o) (sym e) (λ n f b. all_told h early its n (plan_cases.kept_packets w.bag) (plan_cases.kept_packets w.bag) refl y.told)
 carried_told nodes clients time h l w early p o (plan_cases.Showing v its a e) y = subst (ToldBy nodes clients time h l w early o) (sym e) (λ n f b. all_told h early its n (plan_cases.kept_packets w.bag) (plan_cases.kept_packets v.bag) a.kept y.told)
 
-pub step_holds : (nodes clients time : ℕ) (h : histories.History) (l : ledgers.Ledger) (w : worlds.World) (early : List Item) (k : KeptStep) → ((g : histories.History) → once.Begins w.history g → faith.Holds nodes clients time g l w early)
-    → once.Begins (moves.moved w k).world.history h → faith.Holds nodes clients time h (ledgers.ledger_by l w k) (moves.moved w k).world (early ++ (moves.moved w k).items)
+pub step_holds : (nodes clients time : ℕ) (h : histories.History) (l : ledgers.Ledger) (w : worlds.World) (early : List Item) (k : KeptStep) → ((g : histories.History) → once.Begins w.history g → faith.RunStands nodes clients time g l w early)
+    → once.Begins (moves.moved w k).world.history h → faith.RunStands nodes clients time h (ledgers.ledger_by l w k) (moves.moved w k).world (early ++ (moves.moved w k).items)
 step_holds nodes clients time h l w early k all b =
     let p : plans.Plan = plans.plan w k.step in
     let c : plan_cases.IsCase w p = plan_case w k.step in

@@ -42,7 +42,7 @@ pub record RequestsStand (l : ledgers.Ledger) (w : worlds.World) (early : List I
   pub ends : EndsAreAsked w early
 
 -- what holds in each world of a run, for every history that goes on from that world's; `early` has the first item first
-pub record Holds (nodes clients time : ℕ) (h : histories.History) (l : ledgers.Ledger) (w : worlds.World) (early : List Item) : Type 0 where
+pub record RunStands (nodes clients time : ℕ) (h : histories.History) (l : ledgers.Ledger) (w : worlds.World) (early : List Item) : Type 0 where
   pub so_far : SoFar nodes clients time l w
   pub led : AreLed l.leds w
   pub shows : Shows l.leds l.takens (length l.committed) (reverse early)
