@@ -7,3 +7,8 @@ ghost use Rattle.law_handed.specs.HandedOnce as laws;
 pub fn faithful_runs_hand_once()
     ensures { laws.FaithfulRunsHandOnce }
 {}
+
+/// Whatever steps are made, and however the stores fare in them, a run hands out once.
+pub fn runs_hand_once()
+    ensures { laws.RunsHandOnce }
+{}
