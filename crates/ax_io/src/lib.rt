@@ -10,8 +10,6 @@ mod in_memory;
 mod sinks;
 mod sources;
 mod standard;
-#[cfg(test)]
-mod tests;
 
 pub use failures::{Failed, Faults};
 pub use in_memory::{MemSink, MemSource};

@@ -94,7 +94,7 @@ more_known watches ss c kind s at f j ws e = by_bool (nat_eq j c) refl (subst (�
     by_bool true t g =
         let same : j ≡ c = is_same j c t in
         let here : lists.at_place (positions.change_place (λ old. s.watches ++ kind ∷ []) (all_watches ss) c) c ≡ Some (s.watches ++ kind ∷ []) =
-            at_place-changed (λ old. s.watches ++ kind ∷ []) (all_watches ss) c ∙ ap (option_map (λ old. s.watches ++ kind ∷ [])) (map_there ss c s at) in
+        at_place-changed (λ old. s.watches ++ kind ∷ []) (all_watches ss) c ∙ ap (option_map (λ old. s.watches ++ kind ∷ [])) (map_there ss c s at) in
         let new : s.watches ++ kind ∷ [] ≡ ws = some_same (s.watches ++ kind ∷ []) ws (sym here ∙ ap (lists.at_place (positions.change_place (λ old. s.watches ++ kind ∷ []) (all_watches ss) c)) (sym same) ∙ g) in
         kinds_more j watches ((c, kind) ∷ []) ∙ ap (λ ks. kinds_of j watches ++ ks) (kinds_one j c kind true t)
         ∙ ap (λ ks. ks ++ kind ∷ []) (ap (λ i. kinds_of i watches) same ∙ f c s.watches (map_there ss c s at)) ∙ new
@@ -179,9 +179,9 @@ IsOfClient c opened x = Unit {0}
 shown_below : (watches : List (ℕ × WatchKind)) (opened : List (ℕ × ℕ)) (c : ℕ) (ws : List WatchKind) (x : Item) → kinds_of c watches ≡ ws → IsOfClient c opened x → moves.shown_below c ws x ≡ claims_heard.watched_below watches opened x
 shown_below watches opened c ws (item.Event s p prev es) k o =
     sym (ap (flat_map (λ (q : ℕ × ℕ). claims_heard.watched_of watches q.1 s p es)) o
-      ∙ append-nil (claims_heard.watched_of watches c s p es)
-      ∙ kinds_shown c s p es (filter (λ (w : ℕ × WatchKind). nat_eq c w.0) watches)
-      ∙ ap (flat_map (claims_heard.watched_by c s p es)) k)
+    ∙ append-nil (claims_heard.watched_of watches c s p es)
+    ∙ kinds_shown c s p es (filter (λ (w : ℕ × WatchKind). nat_eq c w.0) watches)
+    ∙ ap (flat_map (claims_heard.watched_by c s p es)) k)
 shown_below watches opened c ws (item.Opened s d) k o = refl
 shown_below watches opened c ws (item.Halted xa) k o = refl
 shown_below watches opened c ws (item.Called xa xb xc) k o = refl
@@ -325,7 +325,7 @@ step_items h w early k watches m is (Acts c s i at may same shown) stand told ri
     let me : s.client.me ≡ c = stand.numbers c s at in
     let r : Kept h s.client (seats.unwatched (reverse early)) next = input_keeps h s.client (seats.unwatched (reverse early)) i (stand.stand c s at) (may_reach h w (reverse early) c s i at me may told) in
     let owner : AllByRecursion (λ x. standing.IsOfOwn c h (reverse own ++ seats.unwatched (reverse early)) (inputs.session_in x)) own =
-        subst (λ d. AllByRecursion (λ x. standing.IsOfOwn d h (reverse own ++ seats.unwatched (reverse early)) (inputs.session_in x)) own) (r.me ∙ me) r.owner in
+    subst (λ d. AllByRecursion (λ x. standing.IsOfOwn d h (reverse own ++ seats.unwatched (reverse early)) (inputs.session_in x)) own) (r.me ∙ me) r.owner in
     let clear : AllByRecursion (λ x. claims_heard.is_watched x ≡ false) own = own_unwatched c h (reverse own ++ seats.unwatched (reverse early)) own owner in
     let bare : seats.unwatched m.items ≡ own = ap seats.unwatched shown ∙ unwatched_shown c s.watches own clear in
     shown ∙ shown_items watches (flat_map claims_heard.opened_by (early ++ m.items)) c s.watches own (known c s.watches (map_there w.seats c s at)) (own_client h c early m.items own right bare own owner)

@@ -11,7 +11,7 @@ use Rattle.spec_report.specs.Items as items
 use Rattle.spec_report.specs.Report as reports
 use Rattle.std.specs.List.{AllByRecursion}
 use Rattle.spec_wire.specs.Ranges as ranges
-use Rattle.law_report.specs.ReportValues as report_values
+use Rattle.spec_report.specs.ReportValues as report_values
 use Rattle.law_report.specs.ReportsDiffer as reports_differ
 use Rattle.law_report.proofs.Words.{IsLine, word, join, at, is_word, above}
 use Rattle.law_report.proofs.Numbers.{number_back, number-back, number_line}

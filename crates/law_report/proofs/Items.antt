@@ -7,7 +7,7 @@ use Rattle.ax_types.specs.declared.items.Item.TheVariants as item
 use Rattle.spec_report.specs.CallLines as call_lines
 use Rattle.spec_report.specs.Replies as replies
 use Rattle.spec_report.specs.Items as items
-use Rattle.law_report.specs.ReportValues as report_values
+use Rattle.spec_report.specs.ReportValues as report_values
 use Rattle.law_report.proofs.Words.{IsLine, word, join, at, is_word}
 use Rattle.law_report.proofs.Numbers.{number_back, number-back, number_line}
 use Rattle.law_report.proofs.Replies.{reply_words, reply_back, reply-line, reply-back, event_words, event_back, event-line, event-alone, events_words, events_back, events-line, events-back, events-length, how_back, how-line, how-back}

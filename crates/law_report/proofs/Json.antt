@@ -14,7 +14,7 @@ use Rattle.spec_report.specs.Items as report_items
 use Rattle.spec_report.specs.Report as report_reports
 use Rattle.spec_report.specs.Json as json_form
 use Rattle.std.specs.List.{AllByRecursion}
-use Rattle.law_report.specs.ReportValues as report_values
+use Rattle.spec_report.specs.ReportValues as report_values
 use Rattle.law_report.specs.ReportsDiffer as reports_differ
 use Rattle.law_report.proofs.Lines.{one_list}
 use Rattle.law_report.proofs.Report.{one_item, one_history, one_end, one_call_number}

@@ -20,7 +20,7 @@ use Rattle.ax_types.specs.declared.items.SkipReason.TheVariants as skip
 use Rattle.spec_report.specs.CallLines as call_lines
 use Rattle.spec_report.specs.Items as items
 use Rattle.spec_wire.specs.Ranges as ranges
-use Rattle.law_report.specs.ReportValues as report_values
+use Rattle.spec_report.specs.ReportValues as report_values
 use Rattle.law_report.proofs.Words.{above, lacks, above-lacks, all-weaker, all-append, pieces, pieces-join, pieces-lacks, IsLine, word, join, at, is_word, eq-self}
 use Rattle.law_report.proofs.Numbers.{number_back, number-back, number_line, decimal-above}
 use Rattle.law_report.proofs.Operations.{op_words, op_back, op-line, op-back}

@@ -12,7 +12,7 @@ use Rattle.ax_types.specs.declared.ops.Op.TheVariants as op
 use Rattle.spec_report.specs.Items as report_items
 use Rattle.spec_report.specs.Report as reports
 use Rattle.std.specs.List.{AllByRecursion}
-use Rattle.law_report.specs.ReportValues as report_values
+use Rattle.spec_report.specs.ReportValues as report_values
 use Rattle.law_report.proofs.Words.{IsLine, word, join, at, is_word, pieces}
 use Rattle.law_report.proofs.Numbers.{number_back, number-back, number_line, decimal-begins}
 use Rattle.law_report.proofs.Operations.{op_words, op_back, op-line, op-back}

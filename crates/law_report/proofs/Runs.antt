@@ -7,7 +7,7 @@ use Rattle.spec_report.specs.CallLines as call_lines
 use Rattle.spec_report.specs.Items as report_items
 use Rattle.spec_report.specs.Report as reports
 use Rattle.std.specs.List.{AllByRecursion}
-use Rattle.law_report.specs.ReportValues as report_values
+use Rattle.spec_report.specs.ReportValues as report_values
 use Rattle.law_report.specs.ReportsDiffer as reports_differ
 use Rattle.law_report.proofs.Words.{word, join, pieces, pieces-join, pieces-lacks, above-lacks}
 use Rattle.law_report.proofs.Lines.{AreLines, pieces-lines, same_first, same_rest, one_list, opens, one_cut, same_behind}

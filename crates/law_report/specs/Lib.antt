@@ -1,2 +1,1 @@
-pub mod ReportValues
 pub mod ReportsDiffer

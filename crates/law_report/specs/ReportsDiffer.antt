@@ -16,31 +16,19 @@ use Rattle.spec_report.specs.Report as report_reports
 use Rattle.spec_report.specs.Json as json_form
 use Rattle.std.specs.List.{AllByRecursion}
 use Rattle.spec_wire.specs.Ranges as ranges
-use Rattle.law_report.specs.ReportValues as report_values
-
--- what a run gives: its items, its history and its end
-pub record Run : Type 0 where
-  pub items : List Item
-  pub history : List (ℕ × Act)
-  pub end : RunEnd
-
--- a run of values of the program's types
-pub record IsRun (run : Run) : Type 0 where
-  pub items : AllByRecursion report_values.FitsItem run.items
-  pub history : AllByRecursion report_values.FitsHistoryEntry run.history
-  pub end : report_values.FitsRunEnd run.end
+use Rattle.spec_report.specs.ReportValues as report_values
 
 -- the text of the report of a run
-abbrev pub run_text : Run → List ℕ
+abbrev pub run_text : report_values.Run → List ℕ
 run_text run = report_reports.report_text run.items run.history run.end
 
 -- the report of a run, with the calls that wait
-abbrev pub report_of : Run → Report
+abbrev pub report_of : report_values.Run → Report
 report_of run = record { items = run.items; history = run.history; waiting = report_items.waiting_of run.items; end = run.end }
 
 -- runs with one text are one run
 abbrev pub TextTellsRun : Type 0
-TextTellsRun = (one other : Run) → IsRun one → IsRun other → run_text one ≡ run_text other → one ≡ other
+TextTellsRun = (one other : report_values.Run) → report_values.IsRun one → report_values.IsRun other → run_text one ≡ run_text other → one ≡ other
 
 -- a line of a caller or of a feed's listener
 pub data IsExtraLine : List ℕ → Type 0 where
@@ -79,13 +67,13 @@ FeedTextTells = (one other : FeedLine) → IsFeedLine one → IsFeedLine other �
 
 -- runs with callers and feeds and one text are one run, with the same lines of callers and feeds
 abbrev pub RaceTextTellsRun : Type 0
-RaceTextTellsRun = (one other : Run) (lines more : List (List ℕ)) → IsRun one → IsRun other → AllByRecursion IsExtraLine lines → AllByRecursion IsExtraLine more
+RaceTextTellsRun = (one other : report_values.Run) (lines more : List (List ℕ)) → report_values.IsRun one → report_values.IsRun other → AllByRecursion IsExtraLine lines → AllByRecursion IsExtraLine more
     → report_reports.race_text one.items one.history lines one.end ≡ report_reports.race_text other.items other.history more other.end
     → (one ≡ other) × (lines ≡ more)
 
 -- runs with one JSON text are one run
 abbrev pub JsonTellsRun : Type 0
-JsonTellsRun = (one other : Run) → IsRun one → IsRun other → json_form.json_text (report_of one) ≡ json_form.json_text (report_of other) → one ≡ other
+JsonTellsRun = (one other : report_values.Run) → report_values.IsRun one → report_values.IsRun other → json_form.json_text (report_of one) ≡ json_form.json_text (report_of other) → one ≡ other
 
 -- reports with one JSON text are one report
 abbrev pub JsonTellsReport : Type 0
@@ -105,5 +93,5 @@ abbrev pub EscapesQuotesAlone : Type 0
 EscapesQuotesAlone = (report : Report) → report_values.FitsReport report → AllByRecursion (λ l. quoted l ≡ 34 ∷ (escaped l ++ (34 ∷ []))) (report_strings report)
 
 -- a run in which a node becomes leader
-abbrev pub first_run : Run
+abbrev pub first_run : report_values.Run
 first_run = record { items = item.Leader 1 1 ∷ item.Commit 1 ∷ []; history = (0, act.Nothing) ∷ []; end = run_end.Done }

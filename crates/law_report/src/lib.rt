@@ -2,6 +2,7 @@
 #![tactic(auto)]
 
 ghost use Rattle.law_report.specs.ReportsDiffer as reports_differ;
+ghost use Rattle.spec_report.specs.ReportValues as report_values;
 
 /// Runs whose reports have one text are one run: the items, the history and the end are told apart.
 pub fn text_tells_run()
@@ -40,5 +41,5 @@ pub fn json_escapes_quotes_alone()
 
 /// A run with values within their types, as these laws ask for.
 pub fn first_run_is_within_types()
-    ensures { reports_differ.IsRun reports_differ.first_run }
+    ensures { report_values.IsRun reports_differ.first_run }
 {}

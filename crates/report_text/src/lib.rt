@@ -20,6 +20,3 @@ pub use printout::Printout;
 pub use replies::{write_event, write_reply};
 pub use report::whole_text;
 pub use waiting::waiting_of;
-
-#[cfg(test)]
-mod tests;

@@ -3,8 +3,6 @@
 
 mod draws;
 mod script;
-#[cfg(test)]
-mod tests;
 mod turns;
 
 pub use script::gen_script;

@@ -5,8 +5,6 @@ mod drafts;
 mod lines;
 mod scripts;
 mod steps;
-#[cfg(test)]
-mod tests;
 mod texts;
 
 pub use scripts::{ScriptRefused, read_script};

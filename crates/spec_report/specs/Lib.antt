@@ -3,3 +3,4 @@ pub mod Replies
 pub mod Items
 pub mod Report
 pub mod Json
+pub mod ReportValues

@@ -1,6 +1,6 @@
 //! What only `race` reads, and lines that want more than one node or client; examples/check tries the lines of `run`.
-use crate::{ScriptRefused, read_script, write_step};
 use ax_types::{Line, NoMemory, Why};
+use script_text::{ScriptRefused, read_script, write_step};
 use std::alloc::Global;
 use std::test::Fail;
 

@@ -1,5 +1,5 @@
 //! That memory is there when it is there: a script of all its lines comes.
-use crate::gen_script;
+use script_gen::gen_script;
 use std::test::Fail;
 
 #[test]

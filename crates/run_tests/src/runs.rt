@@ -1,6 +1,7 @@
-use super::run_top;
+//! One run, and what is refused and fails.
 use ax_io::{MemSink, MemSource};
 use ax_types::{List, Status, Why};
+use run_top::run_top;
 use std::alloc::{AllocError, Global};
 use std::test::Fail;
 

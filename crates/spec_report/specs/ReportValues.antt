@@ -1,6 +1,6 @@
 -- What the items, acts and reports of the program's types are like: each number is within its type, and names, keys and texts have
 -- their forms.
-use Rattle.std.specs.Prelude.{ℕ, Option, Some, None}
+use Rattle.std.specs.Prelude.{ℕ, List, Option, Some, None}
 use Rattle.std.specs.List.{AllByRecursion}
 use Rattle.spec_wire.specs.Ranges as ranges
 use Rattle.ax_types.specs.declared.ops.WindowCall.{WindowCall}
@@ -93,3 +93,15 @@ pub record FitsReport (report : Report) : Type 0 where
   pub history : AllByRecursion FitsHistoryEntry report.history
   pub waiting : AllByRecursion FitsCallNumber report.waiting
   pub end : FitsRunEnd report.end
+
+-- what a run gives: its items, its history and its end
+pub record Run : Type 0 where
+  pub items : List Item
+  pub history : List (ℕ × Act)
+  pub end : RunEnd
+
+-- a run of values of the program's types
+pub record IsRun (run : Run) : Type 0 where
+  pub items : AllByRecursion FitsItem run.items
+  pub history : AllByRecursion FitsHistoryEntry run.history
+  pub end : FitsRunEnd run.end

@@ -1,4 +1,7 @@
-use super::*;
+//! Sources and sinks in memory and over real input and output, and those that fail.
+use ax_io::{
+    Failed, MemSink, MemSource, ReadError, Sink, Source, StdSink, StdSource, put_all, read_up_to,
+};
 use ax_types::List;
 use std::alloc::{AllocError, Global};
 use std::io::{self, Error, ErrorKind, Read, Write};

@@ -1,8 +1,9 @@
-use super::*;
+//! The text of a report, and its form in JSON.
 use ax_types::{
     Act, ClientId, Event, Item, Key, Level, Life, List, MapOp, Name, Op, Outcome, Reply, Report,
     RunEnd, Text, WatchKind, WindowCall,
 };
+use report_text::{Printout, json_text, waiting_of, whole_text};
 use std::alloc::Global;
 use std::test::Fail;
 
