@@ -1,5 +1,5 @@
 -- The acts of sessions at resources: each place is of one session, and a session's places rise.
-use Rattle.std.proofs.Common.{◌≡◌, ◌⊎◌, ℕ, zero, suc, ◌+◌, ◌≤◌, ◌<◌, Bool, true, false, cond, nat_eq, List, [], ◌∷◌, Some, slice_get, refl, sym, ap, ◌∙◌, subst, arith, inl, inr, ⊎_elim}
+use Rattle.std.proofs.Common.{◌≡◌, ℕ, zero, suc, ◌+◌, ◌≤◌, ◌<◌, Bool, true, false, cond, nat_eq, List, [], ◌∷◌, Some, slice_get, refl, sym, ap, ◌∙◌, subst, arith}
 use Rattle.std.specs.List.{AllByRecursion}
 use Rattle.ax_types.specs.Places as lists
 use Rattle.ax_types.specs.declared.entries.Act.TheVariants as act
@@ -24,7 +24,8 @@ with_beyond n false x ds h = beyond_since n (n + 1) ds (omega arith) h
 
 dos_beyond : (s done : ℕ) (h : histories.History) → AreBeyond done (histories.dos_after s done h)
 dos_beyond s done [] = tt
-dos_beyond s done ((time, act.Do t name o) ∷ h) = with_beyond done (nat_eq s t) (name, o) (histories.dos_after s (done + 1) h) (dos_beyond s (done + 1) h)
+dos_beyond s done ((time, act.Do t name o) ∷ h) =
+    with_beyond done (nat_eq s t) (name, o) (histories.dos_after s (done + 1) h) (dos_beyond s (done + 1) h)
 dos_beyond s done ((time, act.Open c o) ∷ h) = beyond_since done (done + 1) _ (omega arith) (dos_beyond s (done + 1) h)
 dos_beyond s done ((time, act.Keep t) ∷ h) = beyond_since done (done + 1) _ (omega arith) (dos_beyond s (done + 1) h)
 dos_beyond s done ((time, act.Close t) ∷ h) = beyond_since done (done + 1) _ (omega arith) (dos_beyond s (done + 1) h)
@@ -62,7 +63,8 @@ get_rise (x ∷ ds) zero (suc j) d e h l a b =
     let f : x ≡ d = cc in subst (λ (y : Done). y.0 < e.0) f (get_beyond x.0 ds j e h.0 b)
 get_rise (x ∷ ds) (suc i) (suc j) d e h l a b = get_rise ds i j d e h.1 (omega (arith, l)) a b
 
-pub acts_rise : (h : histories.History) (s j k : ℕ) (d e : Done) → j < k → lists.at_place (histories.dos h s) j ≡ Some d → lists.at_place (histories.dos h s) k ≡ Some e → d.0 < e.0
+pub acts_rise : (h : histories.History) (s j k : ℕ) (d e : Done) → j < k
+    → lists.at_place (histories.dos h s) j ≡ Some d → lists.at_place (histories.dos h s) k ≡ Some e → d.0 < e.0
 acts_rise h s zero k d e l a b = absurd (cc)
 acts_rise h s (suc j) zero d e l a b = absurd (cc)
 acts_rise h s (suc j) (suc k) d e l a b = get_rise (histories.dos h s) j k d e (dos_rise s 0 h) (omega (arith, l)) a b
@@ -72,14 +74,16 @@ data FirstOrOther (b : Bool) (p : ℕ) (ds : List Done) (d : Done) : Type 0 wher
   first : b ≡ true → d.0 ≡ p → FirstOrOther b p ds d
   other : (i : ℕ) → slice_get ds i ≡ Some d → FirstOrOther b p ds d
 
-get_with : (b : Bool) (p : ℕ) (x : List ℕ × Op) (ds : List Done) (i : ℕ) (d : Done) → slice_get (cond b ((p, x) ∷ ds) ds) i ≡ Some d → FirstOrOther b p ds d
+get_with : (b : Bool) (p : ℕ) (x : List ℕ × Op) (ds : List Done) (i : ℕ) (d : Done)
+    → slice_get (cond b ((p, x) ∷ ds) ds) i ≡ Some d → FirstOrOther b p ds d
 get_with true p x ds zero d e = let f : (p, x) ≡ d = cc in first refl (ap (λ (y : Done). y.0) (sym f))
 get_with true p x ds (suc i) d e = other i e
 get_with false p x ds i d e = other i e
 
 both_sessions : (s t u done : ℕ) (h : histories.History) (d e : Done) → FirstOrOther (nat_eq s u) (done + 1) (histories.dos_after s (done + 1) h) d
     → FirstOrOther (nat_eq t u) (done + 1) (histories.dos_after t (done + 1) h) e → d.0 ≡ e.0
-    → ((k m : ℕ) → slice_get (histories.dos_after s (done + 1) h) k ≡ Some d → slice_get (histories.dos_after t (done + 1) h) m ≡ Some e → s ≡ t) → s ≡ t
+    → ((k m : ℕ) → slice_get (histories.dos_after s (done + 1) h) k ≡ Some d
+    → slice_get (histories.dos_after t (done + 1) h) m ≡ Some e → s ≡ t) → s ≡ t
 both_sessions s t u done h d e (first x f) (first y g) same others = equal s u x ∙ sym (equal t u y)
 both_sessions s t u done h d e (first x f) (other k g) same others =
     let l = get_beyond (done + 1) (histories.dos_after t (done + 1) h) k e (dos_beyond t (done + 1) h) g in absurd (omega (arith, f, l, same))
@@ -102,7 +106,8 @@ one_session s t done ((time, act.Close u) ∷ h) i j d e a b same = one_session 
 one_session s t done ((time, act.Expire u) ∷ h) i j d e a b same = one_session s t (done + 1) h i j d e a b same
 one_session s t done ((time, act.Nothing) ∷ h) i j d e a b same = one_session s t (done + 1) h i j d e a b same
 
-pub acts_are_own : (h : histories.History) (s t j k : ℕ) (d e : Done) → lists.at_place (histories.dos h s) j ≡ Some d → lists.at_place (histories.dos h t) k ≡ Some e → d.0 ≡ e.0 → s ≡ t
+pub acts_are_own : (h : histories.History) (s t j k : ℕ) (d e : Done)
+    → lists.at_place (histories.dos h s) j ≡ Some d → lists.at_place (histories.dos h t) k ≡ Some e → d.0 ≡ e.0 → s ≡ t
 acts_are_own h s t zero k d e a b same = absurd (cc)
 acts_are_own h s t (suc j) zero d e a b same = absurd (cc)
 acts_are_own h s t (suc j) (suc k) d e a b same = one_session s t 0 h j k d e a b same

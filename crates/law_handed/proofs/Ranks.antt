@@ -1,6 +1,6 @@
 -- How many commands a session called up to a number: more up to a greater one, where that is of a command.
-use Rattle.std.proofs.Common.{◌≡◌, ℕ, ◌+◌, ◌≤◌, ◌<◌, Bool, true, false, cond, nat_eq, nat_le, List, [], ◌∷◌, ◌++◌, refl, sym, ap, ◌∙◌, subst, arith, count_by, inl, inr}
-use Rattle.std.specs.Prelude.{◌⊎◌, ◌&&◌}
+use Rattle.std.proofs.Common.{◌≡◌, ℕ, ◌+◌, ◌≤◌, ◌<◌, Bool, true, false, cond, nat_le, List, [], ◌∷◌, refl, sym, ap, ◌∙◌, subst, arith, count_by, inl, inr}
+use Rattle.std.specs.Prelude.{◌&&◌}
 use Rattle.std.proofs.lemmas.List.Sums.{sum_by-cons, sum_by-append}
 use Rattle.std.proofs.lemmas.Bool.Decides.{nat_tests}
 use Rattle.ax_types.specs.declared.ops.Op.{Op}
@@ -34,8 +34,10 @@ counted_grows m n (c ∷ cs) l =
     omega (arith, a, b, one, rest)
 
 -- an item and those above it
-upto_split : (s n : ℕ) (y : Item) (above : List Item) → transcripts.commands_upto s n (y ∷ above) ≡ counted n (transcripts.called_by s y) + transcripts.commands_upto s n above
-upto_split s n y above = sum_by-append (λ (d : ℕ × WindowCall). cond (transcripts.is_command d.1 && nat_le d.0 n) 1 0) (transcripts.called_by s y) (transcripts.calls s above)
+upto_split : (s n : ℕ) (y : Item) (above : List Item)
+    → transcripts.commands_upto s n (y ∷ above) ≡ counted n (transcripts.called_by s y) + transcripts.commands_upto s n above
+upto_split s n y above =
+    sum_by-append (λ (d : ℕ × WindowCall). cond (transcripts.is_command d.1 && nat_le d.0 n) 1 0) (transcripts.called_by s y) (transcripts.calls s above)
 
 pub upto_above : (s n : ℕ) (y : Item) (above : List Item) → transcripts.commands_upto s n above ≤ transcripts.commands_upto s n (y ∷ above)
 upto_above s n y above = let e = upto_split s n y above in omega (arith, e)
@@ -54,7 +56,8 @@ pub more_upto : (s m n : ℕ) (name : List ℕ) (o : Op) (above : List Item) →
 more_upto s m n name o [] l i = absurd i
 more_upto s m n name o (y ∷ above) l (inl e) =
     let same : transcripts.called_by s y ≡ (n, call.Command name o) ∷ [] = ap (transcripts.called_by s) e ∙ own_call s n (call.Command name o) in
-    let one : counted m (transcripts.called_by s y) < counted n (transcripts.called_by s y) = subst (λ cs. counted m cs < counted n cs) (sym same) (counted_own m n name o l) in
+    let one : counted m (transcripts.called_by s y) < counted n (transcripts.called_by s y) =
+    subst (λ cs. counted m cs < counted n cs) (sym same) (counted_own m n name o l) in
     let rest = counted_grows m n (transcripts.calls s above) (omega (arith, l)) in
     let a = upto_split s m y above in
     let b = upto_split s n y above in

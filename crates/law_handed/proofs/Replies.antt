@@ -1,5 +1,5 @@
 -- No two replies have one place.
-use Rattle.std.proofs.Common.{◌≡◌, ℕ, ◌+◌, ◌≤◌, ◌<◌, Bool, true, false, cond, nat_eq, nat_lt, List, [], ◌∷◌, Option, Some, None, refl, sym, ap, ap₂, ◌∙◌, subst, arith, count_by}
+use Rattle.std.proofs.Common.{◌≡◌, ℕ, ◌+◌, ◌<◌, Bool, true, false, cond, nat_eq, nat_lt, List, [], ◌∷◌, Option, Some, None, refl, sym, ap, ap₂, ◌∙◌, subst, arith, count_by}
 use Rattle.std.specs.Prelude.{option_map, if◌then◌else◌}
 use Rattle.std.specs.List.{AllByRecursion}
 use Rattle.std.proofs.lemmas.List.Sums.{sum_by-cons}
@@ -32,7 +32,8 @@ record Placed (h : histories.History) (s k p : ℕ) : Type 0 where
   is : lists.at_place (histories.dos h s) k ≡ Some done
   place : done.0 ≡ p
 
-placed : (h : histories.History) (s k p : ℕ) (d : Option Done) → lists.at_place (histories.dos h s) k ≡ d → option_map (λ (x : Done). x.0) d ≡ Some p → Placed h s k p
+placed : (h : histories.History) (s k p : ℕ) (d : Option Done)
+    → lists.at_place (histories.dos h s) k ≡ d → option_map (λ (x : Done). x.0) d ≡ Some p → Placed h s k p
 placed h s k p None i e = absurd (cc)
 placed h s k p (Some d) i e = record { done = d; is = i; place = cc (e) }
 
@@ -72,11 +73,13 @@ other_place : (h : histories.History) (s n k p : ℕ) (above : List Item) (t m q
 other_place h s n k p above t m q is at below same =
     let one : s ≡ t = same_session h s t k (transcripts.commands_upto t m above) p is.place (at ∙ ap (λ x. Some x) (sym same)) in
     let l : m < n = subst (λ b. Below n (if b then Some m else None)) (is_equal s t one) below in
-    let there : place_of h s (transcripts.commands_upto s m above) ≡ Some q = subst (λ u. place_of h u (transcripts.commands_upto u m above) ≡ Some q) (sym one) at in
+    let there : place_of h s (transcripts.commands_upto s m above) ≡ Some q =
+    subst (λ u. place_of h u (transcripts.commands_upto u m above) ≡ Some q) (sym one) at in
     let r : q < p = rising_places h s (transcripts.commands_upto s m above) k q p (is.fewer m l) there is.place in
     absurd (omega (arith, r, same))
 
-not_here : (h : histories.History) (s n k p : ℕ) (above : List Item) (y : Item) → IsReplied h s n k p above → claims_right.IsRight h above y → outcome_order.IsBelowNumber s n y
+not_here : (h : histories.History) (s n k p : ℕ) (above : List Item) (y : Item) → IsReplied h s n k p above
+    → claims_right.IsRight h above y → outcome_order.IsBelowNumber s n y
     → handed.is_reply_at p y ≡ false
 not_here h s n k p above (item.Reply t m q r) is right below = not_at p q (other_place h s n k p above t m q is right.0 below)
 not_here h s n k p above (item.Leader j t) is right below = refl
@@ -119,7 +122,8 @@ own_place_at : (h : histories.History) (above : List Item) (x : Item) → AllAbo
     → ((s : ℕ) → outcome_order.IsOutcome s above x) → handed.IsOfItsOwn above x
 own_place_at h above (item.Reply s n p r) up right outcome =
     let o = outcome s in
-    let below : AllByRecursion (outcome_order.IsBelowNumber s n) above = subst (λ b. Rises s above (if b then Some n else None)) (is_equal s s refl) o.1 in
+    let below : AllByRecursion (outcome_order.IsBelowNumber s n) above =
+    subst (λ b. Rises s above (if b then Some n else None)) (is_equal s s refl) o.1 in
     let c = (o.3 refl).0 in
     none_above h s n (transcripts.commands_upto s n above) p above
     (record { place = right.0; fewer = λ m l. more_upto s m n c.0 c.1 above l c.2 }) up below
@@ -141,7 +145,8 @@ own_place_at h above (item.Listed count) up right outcome = tt
 own_place_at h above (item.Pending m from to kind) up right outcome = tt
 own_place_at h above (item.Skip reason) up right outcome = tt
 
-own_places : (h : histories.History) (above xs : List Item) → AllAbove (claims_right.IsRight h) above → transcripts.EachBelow (claims_right.IsRight h) above xs
+own_places : (h : histories.History) (above xs : List Item) → AllAbove (claims_right.IsRight h) above
+    → transcripts.EachBelow (claims_right.IsRight h) above xs
     → ((s : ℕ) → transcripts.EachBelow (outcome_order.IsOutcome s) above xs) → transcripts.EachBelow handed.IsOfItsOwn above xs
 own_places h above [] up right outcomes = tt
 own_places h above (x ∷ xs) up right outcomes =

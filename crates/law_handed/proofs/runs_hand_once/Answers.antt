@@ -5,4 +5,5 @@ use Rattle.law_handed.proofs.runs_hand_once.Goals as goal
 
 pub returns : goal.returns
 returns c = λ nodes clients timeout steps.
-    let r : runs.Ran = runs.run nodes clients timeout steps in hand_once timeout r.shown r.world.history (runs_are_faithful nodes clients timeout steps)
+    let r : runs.Ran = runs.run nodes clients timeout steps in
+    hand_once timeout r.shown r.world.history (runs_are_faithful nodes clients timeout steps)
