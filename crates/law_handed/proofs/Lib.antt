@@ -1,0 +1,3 @@
+mod Acts
+mod Ranks
+pub mod Replies
