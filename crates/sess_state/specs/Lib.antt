@@ -1,0 +1,4 @@
+pub mod BoxOrder
+pub mod Batching
+pub mod SessionParts
+pub mod ServerSessions
