@@ -1,6 +1,6 @@
 -- The calls without an outcome come next: by the numbers of a session's calls and of its outcomes.
 use Rattle.std.proofs.Common.{◌≡◌, ℕ, zero, suc, ◌+◌, ◌≤◌, ◌<◌, max, Bool, true, false, cond, not, List, [], ◌∷◌, ◌++◌, length, map, reverse, filter, count_by, refl, ap, sym, ◌∙◌, subst, arith, inl, inr, ⊎_elim, append-nil}
-use Rattle.std.specs.Prelude.{◌||◌, nat_eq, nat_lt, Option, Some, None, flat_map, if◌then◌else◌}
+use Rattle.std.specs.Prelude.{◌⊎◌, ◌||◌, nat_eq, nat_lt, Option, Some, None, flat_map, if◌then◌else◌}
 use Rattle.std.specs.List.{AllByRecursion, list_any}
 use Rattle.ax_types.specs.declared.items.Item.{Item}
 use Rattle.ax_types.specs.declared.items.Item.TheVariants as item
@@ -21,7 +21,7 @@ abbrev FollowsTo : ℕ → List Item → Option ℕ → Type 0
 FollowsTo s above None = Unit {0}
 FollowsTo s above (Some n) = n ≡ transcripts.outcome_count s above + 1
 
-follows : (s m : ℕ) (above : List Item) (x : Item) → transcripts.outcome_of s x ≡ Some m → outcome_order.IsGapless s above x → m ≡ transcripts.outcome_count s above + 1
+pub follows : (s m : ℕ) (above : List Item) (x : Item) → transcripts.outcome_of s x ≡ Some m → outcome_order.IsGapless s above x → m ≡ transcripts.outcome_count s above + 1
 follows s m above x e g = let f : FollowsTo s above (transcripts.outcome_of s x) = g in subst (FollowsTo s above) e f
 
 is_none : (s n : ℕ) (x : Item) → transcripts.outcome_of s x ≡ None → transcripts.is_outcome s n x ≡ false
@@ -30,7 +30,7 @@ is_none s n x e = rw e refl
 is_some_of : (s n m : ℕ) (x : Item) → transcripts.outcome_of s x ≡ Some m → transcripts.is_outcome s n x ≡ nat_eq n m
 is_some_of s n m x e = rw e refl
 
-if_some : {X : Type 0} (o : Option X) → (o ≡ None) ⊎ ((x : X) × (o ≡ Some x))
+pub if_some : {X : Type 0} (o : Option X) → (o ≡ None) ⊎ ((x : X) × (o ≡ Some x))
 if_some None = inl refl
 if_some (Some x) = inr (x, refl)
 
