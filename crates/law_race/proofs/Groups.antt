@@ -80,7 +80,7 @@ each_part P R f above (x ∷ xs) h = (f above x h.0, each_part P R f (x ∷ abov
 outcomes : (s : ℕ) (early : List Item) → ((t : ℕ) → transcripts.EachItem (outcome_order.IsOutcome t) early) → (t : ℕ) → transcripts.EachItem (outcome_order.IsOutcome t) (early ++ open_items s (transcripts.unanswered s early))
 outcomes s early h t =
     let k : ℕ = transcripts.outcome_count s early in
-    let gapless : transcripts.EachItem (outcome_order.IsGapless s) early = each_part (outcome_order.IsOutcome s) (outcome_order.IsGapless s) (λ above x o. o.2.0) [] early (h s) in
+    let gapless : transcripts.EachItem (outcome_order.IsGapless s) early = each_part (outcome_order.IsOutcome s) (outcome_order.IsGapless s) (λ above x o. o.2) [] early (h s) in
     let called : transcripts.EachItem (outcome_order.IsNumbered s) early = each_part (outcome_order.IsOutcome s) (outcome_order.IsNumbered s) (λ above x o. o.0) [] early (h s) in
     let z : transcripts.outcome_count s [] ≡ 0 = refl in
     let b = count_below s [] early in
