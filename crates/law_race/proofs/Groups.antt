@@ -1,6 +1,6 @@
 -- What is shown, with the calls that are left open behind it.
 use Rattle.std.proofs.Common.{◌≡◌, ℕ, suc, ◌+◌, max, List, [], ◌∷◌, ◌++◌, map, reverse, filter, refl, ap, sym, ◌∙◌, subst, arith, ⊎_elim, append-nil, append_assoc}
-use Rattle.std.specs.Prelude.{cond, not, is_some, false, flat_map, length}
+use Rattle.std.specs.Prelude.{cond, not, is_some, false, flat_map}
 use Rattle.std.specs.List.{AllByRecursion, list_any}
 use Rattle.std.proofs.lemmas.List.Elements.{filter-append}
 use Rattle.std.proofs.lemmas.Grind.{flat_map-append}
@@ -88,7 +88,7 @@ outcomes s early h t =
     let low = all_low s [] early gapless tt in
     each_append (outcome_order.IsOutcome t) [] early (open_items s (transcripts.unanswered s early)) (h t)
     (open_outcomes s k early (λ n. answered s n [] early gapless) refl 0 (below [] early) (transcripts.calls s early) count
-        (subst (λ m. AllByRecursion (outcome_order.IsBelowNumber s (suc m)) (below [] early)) count low) (numbered s [] early called) (calls_stand s [] early) t)
+    (subst (λ m. AllByRecursion (outcome_order.IsBelowNumber s (suc m)) (below [] early)) count low) (numbered s [] early called) (calls_stand s [] early) t)
 
 -- what is faithful stays so
 goes_on : (timeout s : ℕ) (shown new : List transcripts.Shown) (h : histories.History) → faithful.IsFaithful timeout shown h → transcripts.transcript new ≡ transcripts.transcript shown ++ laws.left_open s shown → claims_heard.AreWatched new → outcome_order.AreEnds new

@@ -1,6 +1,6 @@
 -- The calls without an outcome come next: by the numbers of a session's calls and of its outcomes.
-use Rattle.std.proofs.Common.{◌≡◌, ℕ, zero, suc, ◌+◌, ◌≤◌, ◌<◌, max, Bool, true, false, cond, not, List, [], ◌∷◌, ◌++◌, length, map, reverse, filter, count_by, refl, ap, sym, ◌∙◌, subst, arith, inl, inr, ⊎_elim, append-nil}
-use Rattle.std.specs.Prelude.{◌⊎◌, ◌||◌, nat_eq, nat_lt, Option, Some, None, flat_map, if◌then◌else◌}
+use Rattle.std.proofs.Common.{◌≡◌, ℕ, suc, ◌+◌, ◌≤◌, ◌<◌, max, Bool, true, false, cond, not, List, [], ◌∷◌, ◌++◌, length, map, filter, refl, ap, sym, ◌∙◌, subst, arith, inl, inr, ⊎_elim}
+use Rattle.std.specs.Prelude.{◌⊎◌, ◌||◌, nat_eq, nat_lt, Option, Some, None}
 use Rattle.std.specs.List.{AllByRecursion, list_any}
 use Rattle.ax_types.specs.declared.items.Item.{Item}
 use Rattle.ax_types.specs.declared.items.Item.TheVariants as item
@@ -9,7 +9,7 @@ use Rattle.spec_claims.specs.Transcript as transcripts
 use Rattle.spec_claims.specs.OutcomeOrder as outcome_order
 use Rattle.law_release.proofs.Tests.{by_test, on_or_off, equal, is_equal, is_unequal, unequal, not_below}
 use Rattle.law_told.proofs.Lists.{all_since, all_append}
-use Rattle.law_client.proofs.Shown.{outcomes_same, outcomes_more, some_below, none_below, below_more}
+use Rattle.law_client.proofs.Shown.{outcomes_same, outcomes_more, some_below, below_more}
 use Rattle.law_items.proofs.Below.{below}
 
 -- the items of calls without an outcome
