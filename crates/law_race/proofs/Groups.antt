@@ -191,8 +191,17 @@ in_own timeout s shown h k f =
     let cs : List (ℕ × WindowCall) = transcripts.unanswered s (transcripts.transcript shown) in
     goes_on timeout s shown (laws.in_own_group k items shown) h f (own_transcript k items shown) (own_watched k s cs [] [] shown f.watched) (own_ends k s cs [] shown f.ends)
 
+-- nothing to tell
+nothing_behind : (shown : List transcripts.Shown) → laws.behind_last [] shown ≡ shown
+nothing_behind [] = refl
+nothing_behind (m ∷ []) = ap (λ xs. (record { step = m.step; items = xs }) ∷ []) (append-nil m.items)
+nothing_behind (m ∷ n ∷ shown) = ap (λ ms. m ∷ ms) (nothing_behind (n ∷ shown))
+
+none_left : (timeout s : ℕ) (shown : List transcripts.Shown) (h : histories.History) → faithful.IsFaithful timeout shown h → laws.left_open s shown ≡ [] → faithful.IsFaithful timeout (laws.behind_last (laws.left_open s shown) shown) h
+none_left timeout s shown h f e = subst (λ ms. faithful.IsFaithful timeout ms h) (sym (ap (λ xs. laws.behind_last xs shown) e ∙ nothing_behind shown)) f
+
 pub races_are_faithful : laws.RacesAreFaithful
 races_are_faithful nodes clients timeout s steps =
     let r : runs.Ran = runs.run nodes clients timeout steps in
     let f = runs_are_faithful nodes clients timeout steps in
-    record { in_own = λ k. in_own timeout s r.shown r.world.history k f; behind = behind timeout s r.shown r.world.history f }
+    record { in_own = λ k. in_own timeout s r.shown r.world.history k f; behind = λ c. ⊎_elim (λ e. behind timeout s r.shown r.world.history f e) (λ e. none_left timeout s r.shown r.world.history f e) c }

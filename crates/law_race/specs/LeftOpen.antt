@@ -1,6 +1,6 @@
 -- Where the pump of a race stopped, each call of the session without an outcome is told as unanswered, behind all that the run
 -- shows. That stays faithful to the same history.
-use Rattle.std.specs.Prelude.{ℕ, ◌≡◌, Bool, true, false, List, [], ◌∷◌, ◌++◌}
+use Rattle.std.specs.Prelude.{ℕ, ◌≡◌, ◌⊎◌, Bool, true, false, List, [], ◌∷◌, ◌++◌}
 use Rattle.std.specs.List.{list_any}
 use Rattle.ax_types.specs.declared.replies.How.TheVariants as how
 use Rattle.ax_types.specs.declared.items.Item.{Item}
@@ -37,10 +37,10 @@ ends_in_expiry (m ∷ []) = list_any is_expiry m.items
 ends_in_expiry (m ∷ n ∷ shown) = ends_in_expiry (n ∷ shown)
 
 -- An expiry in a step is followed there by what becomes of the expired session's calls and by nothing else. So items of another
--- session may stand behind the last step's own only where that step tells no expiry.
+-- session may stand behind the last step's own only where that step tells no expiry, or where there are none.
 pub record StaysFaithful (timeout s : ℕ) (shown : List transcripts.Shown) (h : histories.History) : Type 0 where
   pub in_own : (k : KeptStep) → faithful.IsFaithful timeout (in_own_group k (left_open s shown) shown) h
-  pub behind : ends_in_expiry shown ≡ false → faithful.IsFaithful timeout (behind_last (left_open s shown) shown) h
+  pub behind : (ends_in_expiry shown ≡ false) ⊎ (left_open s shown ≡ []) → faithful.IsFaithful timeout (behind_last (left_open s shown) shown) h
 
 abbrev pub RacesAreFaithful : Type 0
 RacesAreFaithful = (nodes clients timeout s : ℕ) (steps : List KeptStep) → StaysFaithful timeout s (runs.run nodes clients timeout steps).shown (runs.run nodes clients timeout steps).world.history
