@@ -1,3 +1,4 @@
 pub mod FaithfulLemmas
 pub mod FormLemmas
 pub mod ReportLemmas
+pub mod SourceLemmas

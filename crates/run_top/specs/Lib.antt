@@ -3,4 +3,5 @@ pub mod NarrowForms
 pub mod Judging
 pub mod Outcomes
 pub mod Runs
+pub mod SourceRests
 pub mod Statuses

@@ -6,6 +6,7 @@ ghost use Rattle.ax_io.specs.Content as ax_io_content;
 ghost use Rattle.ax_io.specs.Count as counts;
 ghost use Rattle.run_top.specs.Answers as answers;
 ghost use Rattle.run_top.specs.Outcomes as outcomes;
+ghost use Rattle.run_top.specs.SourceRests as source_rests;
 
 mod form;
 mod judge;
@@ -34,6 +35,9 @@ pub fn run_top<I: Source, O: Sink>(
     ensures script { IfSome (I.content input.old) (λ content. outcomes.TellsRefusal (answers.judged (outcomes.input_bytes content)) result) }
     ensures read_fault { result ≡ Status.ReadFault → counts.Rose (I.faults input.old) (I.faults input.new) }
     ensures write_fault { result ≡ Status.WriteFault → counts.Rose (O.faults output.old) (O.faults output.new) }
+    // Want of memory is no fault in disguise: at every other answer the counts stand as before.
+    ensures no_read_fault { result ≢ Status.ReadFault → I.faults input.new ≡ I.faults input.old }
+    ensures no_write_fault { result ≢ Status.WriteFault → O.faults output.new ≡ O.faults output.old }
     // A call in which neither count of faults rose answers the script, if there is memory.
     ensures complete { answers.is_run_command (map string_bytes words.now) ≡ true
         → ¬ counts.Rose (I.faults input.old) (I.faults input.new) → ¬ counts.Rose (O.faults output.old) (O.faults output.new)
@@ -49,6 +53,8 @@ pub fn run_top<I: Source, O: Sink>(
     // Where neither all nor a part of a report was written, the sink was not called; nor was the source for words that are refused.
     ensures quiet { result ≢ Status.Done → result ≢ Status.WriteFault → output.new ≡ output.old }
     ensures unread { result ≡ Status.Usage → input.new ≡ input.old }
+    // What is left of the source, after every answer.
+    ensures source { source_rests.LeavesSource (I.content input.old) (I.content input.new) result }
 
     ensures faithful { result ≡ Status.Done
         → IfSome (I.content input.old) (λ content. IsOkAnd (answers.judged (outcomes.input_bytes content)) outcomes.RunsFaithfully) }

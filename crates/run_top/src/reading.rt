@@ -2,6 +2,7 @@ ghost use Rattle.std.specs.Prelude.{◌≡◌, ◌≤◌, map, string_bytes, IsE
 ghost use Rattle.ax_io.specs.Count as counts;
 ghost use Rattle.run_top.specs.Answers as answers;
 ghost use Rattle.run_top.specs.Outcomes as outcomes;
+ghost use Rattle.run_top.specs.SourceRests as source_rests;
 
 use crate::judge::judge;
 use crate::refusals::Refused;
@@ -46,7 +47,9 @@ fn only_client() -> ClientId
 pub fn report<I: Source>(alloc: Global, words: &[String], input: &mut I) -> Result<String, Refused>
     ensures usage { outcomes.Accepts (answers.is_run_command (map string_bytes words.now)) result }
     ensures unread { IsErrOf result Refused.Usage → input.new ≡ input.old }
+    ensures source { source_rests.LeavesInput (I.content input.old) (I.content input.new) result }
     ensures count { I.faults input.old ≤ I.faults input.new }
+    ensures no_read_fault { source_rests.StandsUnlessReadFault (I.faults input.old) (I.faults input.new) result }
     ensures read_fault { IsErrOf result Refused.ReadFault → counts.Rose (I.faults input.old) (I.faults input.new) }
     ensures reports { IfSome (I.content input.old) (λ content. outcomes.Reports string_bytes (answers.judged (outcomes.input_bytes content)) result) }
 {
