@@ -1,10 +1,14 @@
 ghost use Rattle.std.specs.Prelude.{◌≡◌, OnOk, string_bytes, ◌++◌, []};
+ghost use Rattle.ax_types.specs.Ends as ends;
+ghost use Rattle.spec_report.specs.CallLines as call_lines;
 ghost use Rattle.spec_report.specs.Items as spec;
+ghost use Rattle.spec_report.specs.ReportValues as report_values;
+ghost use Rattle.spec_wire.specs.Ranges as ranges;
 
 use crate::calls::{level_text, write_call};
 use crate::pieces::{blank, one_operand, three_operands, two_operands, word};
 use crate::replies::{how_text, write_counted_events, write_event, write_reply};
-use ax_types::{Event, Item, Level, NoMemory, PayloadKind, Reply, SkipReason, WatchKind};
+use ax_types::{End, Event, Item, Level, NoMemory, PayloadKind, Reply, SkipReason, WatchKind};
 
 fn payload_kind_text(kind: PayloadKind) -> &'static str
     ensures { result.now ≡ spec.payload_kind_text kind }
@@ -42,7 +46,8 @@ pub fn watch_text(kind: WatchKind) -> &'static str
 }
 
 fn write_skip_reason(line: &mut String, reason: SkipReason) -> Result<(), NoMemory>
-    ensures { OnOk result (string_bytes line.new ≡ string_bytes line.old ++ spec.skip_text reason) }
+    ensures written { OnOk result (string_bytes line.new ≡ string_bytes line.old ++ spec.skip_text reason) }
+    ensures fits { OnOk result (report_values.FitsSkip reason) }
 {
     match reason {
         SkipReason::NodeDown => word(line, "node-down"),
@@ -55,7 +60,7 @@ fn write_skip_reason(line: &mut String, reason: SkipReason) -> Result<(), NoMemo
         SkipReason::SessionOpen => word(line, "session-open"),
         SkipReason::NoSession => word(line, "no-session"),
         SkipReason::WindowFull => word(line, "window-full"),
-        SkipReason::Busy { unanswered } => one_operand(line, "busy", &unanswered),
+        SkipReason::Busy { unanswered } => one_operand(line, "busy", unanswered),
         SkipReason::Watched => word(line, "watched"),
     }
 }
@@ -69,12 +74,42 @@ fn write_arrival(line: &mut String, term: u64, arrival: u64) -> Result<(), NoMem
 
 /// `TERM.A`, or `-` where there is none.
 fn write_reach(line: &mut String, reach: Option<(u64, u64)>) -> Result<(), NoMemory>
-    ensures { OnOk result (string_bytes line.new ≡ string_bytes line.old ++ spec.reach_text reach) }
+    ensures written { OnOk result (string_bytes line.new ≡ string_bytes line.old ++ spec.reach_text reach) }
+    ensures fits { OnOk result (report_values.FitsReach reach) }
 {
     match reach {
         None => word(line, "-"),
         Some((term, arrival)) => write_arrival(line, term, arrival),
     }
+}
+
+/// `nK` or `cC`.
+fn write_link_end(line: &mut String, end: End) -> Result<(), NoMemory>
+    ensures written { OnOk result (string_bytes line.new ≡ string_bytes line.old ++ ends.link_end_text end) }
+    ensures fits { OnOk result (report_values.FitsEnd end) }
+{
+    match end {
+        End::Node(node) => {
+            let number = node.number();
+            Ok(write!(line, "n{number}")?)
+        }
+        End::Client(client) => {
+            let number = client.number();
+            Ok(write!(line, "c{number}")?)
+        }
+    }
+}
+
+/// ` FROM TO`, behind a word: the ends of a packet's way.
+fn write_way(line: &mut String, from: End, to: End) -> Result<(), NoMemory>
+    ensures written { OnOk result (string_bytes line.new
+        ≡ string_bytes line.old ++ call_lines.two_operands [] (ends.link_end_text from) (ends.link_end_text to)) }
+    ensures fits { OnOk result (report_values.FitsEnd from × report_values.FitsEnd to) }
+{
+    blank(line)?;
+    write_link_end(line, from)?;
+    blank(line)?;
+    write_link_end(line, to)
 }
 
 /// ` LEVEL P REACH REPLY`, behind a word.
@@ -85,9 +120,10 @@ pub fn write_read(
     reach: Option<(u64, u64)>,
     reply: &Reply,
 ) -> Result<(), NoMemory>
-    ensures { OnOk result (string_bytes line.new ≡ string_bytes line.old ++ spec.read_text [] level place reach reply.now) }
+    ensures written { OnOk result (string_bytes line.new ≡ string_bytes line.old ++ spec.read_text [] level place reach reply.now) }
+    ensures fits { OnOk result (report_values.FitsReach reach × ranges.FitsReply reply.now) }
 {
-    two_operands(line, "", &level_text(level), &place)?;
+    two_operands(line, "", level_text(level), place)?;
     blank(line)?;
     write_reach(line, reach)?;
     blank(line)?;
@@ -101,20 +137,22 @@ pub fn write_told(
     place: u64,
     event: &Event,
 ) -> Result<(), NoMemory>
-    ensures { OnOk result (string_bytes line.new ≡ string_bytes line.old ++ spec.told_text [] session place event.now) }
+    ensures written { OnOk result (string_bytes line.new ≡ string_bytes line.old ++ spec.told_text [] session place event.now) }
+    ensures fits { OnOk result (ranges.FitsEvent event.now) }
 {
-    two_operands(line, "", &session, &place)?;
+    two_operands(line, "", session, place)?;
     blank(line)?;
     write_event(line, event)
 }
 
 /// The line of an item, without its newline.
 pub fn write_item_line(line: &mut String, item: &Item) -> Result<(), NoMemory>
-    ensures { OnOk result (string_bytes line.new ≡ string_bytes line.old ++ spec.item_line item.now) }
+    ensures written { OnOk result (string_bytes line.new ≡ string_bytes line.old ++ spec.item_line item.now) }
+    ensures fits { OnOk result (report_values.FitsItem item.now) }
 {
     match item {
-        Item::Leader { node, term } => two_operands(line, "leader", node, term),
-        Item::Commit { place } => one_operand(line, "commit", place),
+        Item::Leader { node, term } => two_operands(line, "leader", node.number(), *term),
+        Item::Commit { place } => one_operand(line, "commit", *place),
         Item::Reach {
             node,
             term,
@@ -122,19 +160,19 @@ pub fn write_item_line(line: &mut String, item: &Item) -> Result<(), NoMemory>
             session,
             number,
         } => {
-            one_operand(line, "reach", node)?;
+            one_operand(line, "reach", node.number())?;
             blank(line)?;
             write_arrival(line, *term, *arrival)?;
-            two_operands(line, "", session, number)
+            two_operands(line, "", *session, *number)
         }
-        Item::Halted { node } => one_operand(line, "halted", node),
-        Item::Opened { session, client } => two_operands(line, "opened", session, client),
+        Item::Halted { node } => one_operand(line, "halted", node.number()),
+        Item::Opened { session, client } => two_operands(line, "opened", *session, client.number()),
         Item::Called {
             session,
             number,
             call,
         } => {
-            two_operands(line, "called", session, number)?;
+            two_operands(line, "called", *session, *number)?;
             blank(line)?;
             write_call(line, call)
         }
@@ -144,7 +182,7 @@ pub fn write_item_line(line: &mut String, item: &Item) -> Result<(), NoMemory>
             prev,
             events,
         } => {
-            three_operands(line, "event", session, place, prev)?;
+            three_operands(line, "event", *session, *place, *prev)?;
             blank(line)?;
             write_counted_events(line, events.as_slice())
         }
@@ -155,7 +193,7 @@ pub fn write_item_line(line: &mut String, item: &Item) -> Result<(), NoMemory>
             place,
             event,
         } => {
-            two_operands(line, "watch", client, &watch_text(*kind))?;
+            two_operands(line, "watch", client.number(), watch_text(*kind))?;
             write_told(line, *session, *place, event)
         }
         Item::Reply {
@@ -164,7 +202,7 @@ pub fn write_item_line(line: &mut String, item: &Item) -> Result<(), NoMemory>
             place,
             reply,
         } => {
-            three_operands(line, "reply", session, number, place)?;
+            three_operands(line, "reply", *session, *number, *place)?;
             blank(line)?;
             write_reply(line, reply)
         }
@@ -176,27 +214,28 @@ pub fn write_item_line(line: &mut String, item: &Item) -> Result<(), NoMemory>
             reach,
             reply,
         } => {
-            two_operands(line, "read", session, number)?;
+            two_operands(line, "read", *session, *number)?;
             write_read(line, *level, *place, *reach, reply)
         }
         Item::Ended {
             session,
             place,
             how,
-        } => three_operands(line, "ended", session, place, &how_text(*how)),
-        Item::Doubt { session, number } => two_operands(line, "doubt", session, number),
-        Item::Lost { session, number } => two_operands(line, "lost", session, number),
-        Item::Unsent { session, number } => two_operands(line, "unsent", session, number),
-        Item::Unanswered { session, number } => two_operands(line, "unanswered", session, number),
-        Item::Listed { count } => one_operand(line, "listed", count),
+        } => three_operands(line, "ended", *session, *place, how_text(*how)),
+        Item::Doubt { session, number } => two_operands(line, "doubt", *session, *number),
+        Item::Lost { session, number } => two_operands(line, "lost", *session, *number),
+        Item::Unsent { session, number } => two_operands(line, "unsent", *session, *number),
+        Item::Unanswered { session, number } => two_operands(line, "unanswered", *session, *number),
+        Item::Listed { count } => one_operand(line, "listed", *count),
         Item::Pending {
             number,
             from,
             to,
             kind,
         } => {
-            three_operands(line, "pending", number, from, to)?;
-            one_operand(line, "", &payload_kind_text(*kind))
+            one_operand(line, "pending", *number)?;
+            write_way(line, *from, *to)?;
+            one_operand(line, "", payload_kind_text(*kind))
         }
         Item::Skip { reason } => {
             word(line, "skip ")?;
@@ -209,5 +248,5 @@ pub fn write_item_line(line: &mut String, item: &Item) -> Result<(), NoMemory>
 pub fn write_waiting_line(line: &mut String, session: u64, number: u64) -> Result<(), NoMemory>
     ensures { OnOk result (string_bytes line.new ≡ string_bytes line.old ++ spec.waiting_line (session, number)) }
 {
-    two_operands(line, "waiting", &session, &number)
+    two_operands(line, "waiting", session, number)
 }

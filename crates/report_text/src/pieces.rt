@@ -19,35 +19,35 @@ pub fn word(line: &mut String, word: &str) -> Result<(), NoMemory>
 }
 
 /// A word and an operand, with one blank between.
-pub fn one_operand<X: Display>(line: &mut String, word: &str, x: &X) -> Result<(), NoMemory>
-    ensures { OnOk result (IfSome (X.output x.now)
+pub fn one_operand<X: Display + Drop>(line: &mut String, word: &str, x: X) -> Result<(), NoMemory>
+    ensures { OnOk result (IfSome (X.output x)
         (λ a. string_bytes line.new ≡ string_bytes line.old ++ call_lines.one_operand word.now a)) }
 {
     Ok(write!(line, "{word} {x}")?)
 }
 
 /// A word and two operands, with one blank between.
-pub fn two_operands<X: Display, Y: Display>(
+pub fn two_operands<X: Display + Drop, Y: Display + Drop>(
     line: &mut String,
     word: &str,
-    x: &X,
-    y: &Y,
+    x: X,
+    y: Y,
 ) -> Result<(), NoMemory>
-    ensures { OnOk result (IfSome (X.output x.now) (λ a. IfSome (Y.output y.now)
+    ensures { OnOk result (IfSome (X.output x) (λ a. IfSome (Y.output y)
         (λ b. string_bytes line.new ≡ string_bytes line.old ++ call_lines.two_operands word.now a b))) }
 {
     Ok(write!(line, "{word} {x} {y}")?)
 }
 
 /// A word and three operands, with one blank between.
-pub fn three_operands<X: Display, Y: Display, Z: Display>(
+pub fn three_operands<X: Display + Drop, Y: Display + Drop, Z: Display + Drop>(
     line: &mut String,
     word: &str,
-    x: &X,
-    y: &Y,
-    z: &Z,
+    x: X,
+    y: Y,
+    z: Z,
 ) -> Result<(), NoMemory>
-    ensures { OnOk result (IfSome (X.output x.now) (λ a. IfSome (Y.output y.now) (λ b. IfSome (Z.output z.now)
+    ensures { OnOk result (IfSome (X.output x) (λ a. IfSome (Y.output y) (λ b. IfSome (Z.output z)
         (λ c. string_bytes line.new ≡ string_bytes line.old ++ call_lines.three_operands word.now a b c)))) }
 {
     Ok(write!(line, "{word} {x} {y} {z}")?)

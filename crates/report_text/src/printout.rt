@@ -3,6 +3,8 @@ ghost use Rattle.std.specs.Fmt.{decimal};
 ghost use Rattle.spec_report.specs.CallLines as call_lines;
 ghost use Rattle.spec_report.specs.Items as items;
 ghost use Rattle.spec_report.specs.Report as spec;
+ghost use Rattle.spec_report.specs.ReportValues as report_values;
+ghost use Rattle.spec_wire.specs.Ranges as ranges;
 
 use crate::items::{watch_text, write_item_line, write_told, write_waiting_line};
 use crate::pieces::{blank, one_operand, three_operands, two_operands, word};
@@ -69,6 +71,7 @@ impl Printout {
     /// Writes the line of an item.
     pub fn write_item(&mut self, item: &Item) -> Result<(), NoMemory>
         ensures written { OnOk result (self.new ≡ self.old ++ items.item_text item.now) }
+        ensures fits { OnOk result (report_values.FitsItem item.now) }
         ensures unwritten { OnErr result (self.new ≡ self.old) }
     {
         self.line.clear();
@@ -82,13 +85,14 @@ impl Printout {
         ensures unwritten { OnErr result (self.new ≡ self.old) }
     {
         self.line.clear();
-        one_operand(&mut self.line, "history", &count)?;
+        one_operand(&mut self.line, "history", count)?;
         add_line(&mut self.text, &mut self.line)
     }
 
     /// Writes the line of the time and the act at a place of the history.
     pub fn write_act(&mut self, place: u64, time: u64, act: &Act) -> Result<(), NoMemory>
         ensures written { OnOk result (self.new ≡ self.old ++ (spec.act_line place (time, act.now) ++ (10 ∷ []))) }
+        ensures fits { OnOk result (report_values.FitsHistoryEntry (time, act.now)) }
         ensures unwritten { OnErr result (self.new ≡ self.old) }
     {
         self.line.clear();
@@ -99,6 +103,7 @@ impl Printout {
     /// Writes the line of a call without an outcome.
     pub fn write_waiting(&mut self, session: u64, number: u64) -> Result<(), NoMemory>
         ensures written { OnOk result (self.new ≡ self.old ++ (items.waiting_line (session, number) ++ (10 ∷ []))) }
+        ensures fits { OnOk result (report_values.FitsCallNumber (session, number)) }
         ensures unwritten { OnErr result (self.new ≡ self.old) }
     {
         self.line.clear();
@@ -115,10 +120,11 @@ impl Printout {
     ) -> Result<(), NoMemory>
         requires { outcome.now ≢ Outcome.Stopped }
         ensures written { OnOk result (self.new ≡ self.old ++ spec.caller_text caller number outcome.now) }
+        ensures fits { OnOk result (report_values.FitsOutcome outcome.now) }
         ensures unwritten { OnErr result (self.new ≡ self.old) }
     {
         self.line.clear();
-        two_operands(&mut self.line, "caller", &caller, &number)?;
+        two_operands(&mut self.line, "caller", caller, number)?;
         blank(&mut self.line)?;
         write_outcome(&mut self.line, outcome)?;
         add_line(&mut self.text, &mut self.line)
@@ -135,10 +141,11 @@ impl Printout {
         event: &Event,
     ) -> Result<(), NoMemory>
         ensures written { OnOk result (self.new ≡ self.old ++ spec.feed_text feed client kind session place event.now) }
+        ensures fits { OnOk result (ranges.FitsEvent event.now) }
         ensures unwritten { OnErr result (self.new ≡ self.old) }
     {
         self.line.clear();
-        three_operands(&mut self.line, "feed", &feed, &client, &watch_text(kind))?;
+        three_operands(&mut self.line, "feed", feed, client, watch_text(kind))?;
         write_told(&mut self.line, session, place, event)?;
         add_line(&mut self.text, &mut self.line)
     }
@@ -146,6 +153,7 @@ impl Printout {
     /// Writes the last line, `end done` or `end step-limit LINE`.
     pub fn write_end(&mut self, end: RunEnd) -> Result<(), NoMemory>
         ensures written { OnOk result (self.new ≡ self.old ++ spec.end_text end) }
+        ensures fits { OnOk result (report_values.FitsRunEnd end) }
         ensures unwritten { OnErr result (self.new ≡ self.old) }
     {
         self.line.clear();

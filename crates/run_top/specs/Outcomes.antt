@@ -1,9 +1,11 @@
 -- What the program's answer says.
 use Rattle.std.specs.Prelude.{◌≡◌, ◌⊎◌, ⊤, ℕ, Bool, true, false, List, Result, Ok, Err, IsOkAnd}
+use Rattle.ax_types.specs.declared.scripts.RunEnd.TheVariants as run_end
 use Rattle.ax_types.specs.declared.statuses.Status.{Status}
 use Rattle.ax_types.specs.declared.statuses.Status.TheVariants as status
 use Rattle.ax_io.specs.Content as ax_io_content
 use Rattle.spec_claims.specs.Faithful as claims_faithful
+use Rattle.spec_report.specs.ReportValues as report_values
 use Rattle.spec_script.specs.Scripts as scripts
 use Rattle.spec_single.specs.Form as narrow_form
 use Rattle.spec_single.specs.NarrowRun as narrow_runs
@@ -73,3 +75,7 @@ Answers meant s = (s ≡ script_status meant) ⊎ (s ≡ status.NoMemory)
 -- the run of these calls is faithful to its history, at any session timeout
 abbrev pub RunsFaithfully : List narrow_form.Call → Type 0
 RunsFaithfully cs = (timeout : ℕ) → claims_faithful.IsFaithful timeout (narrow_runs.run_shown cs) (narrow_runs.run_history cs)
+
+-- each value of the run of these calls is within its type, so that no other run has its report
+unfoldable pub IsWithinTypes : List narrow_form.Call → Type 0
+IsWithinTypes cs = report_values.IsRun (record { items = narrow_runs.run_items cs; history = narrow_runs.run_history cs; end = run_end.Done })

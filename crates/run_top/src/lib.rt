@@ -54,6 +54,9 @@ pub fn run_top<I: Source, O: Sink>(
     // What is left of the source, after every answer.
     ensures source { source_rests.LeavesSource (I.content input.old) (I.content input.new) result }
 
+    // The run that was reported is one whose report tells it (`text_tells_run` of law_report).
+    ensures within_types { result ≡ Status.Done
+        → IfSome (I.content input.old) (λ content. IsOkAnd (answers.judged (outcomes.input_bytes content)) outcomes.IsWithinTypes) }
     ensures faithful { result ≡ Status.Done
         → IfSome (I.content input.old) (λ content. IsOkAnd (answers.judged (outcomes.input_bytes content)) outcomes.RunsFaithfully) }
 {

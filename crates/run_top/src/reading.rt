@@ -1,4 +1,4 @@
-ghost use Rattle.std.specs.Prelude.{◌≡◌, ◌≤◌, map, string_bytes, IsErrOf, IfSome};
+ghost use Rattle.std.specs.Prelude.{◌≡◌, ◌≤◌, map, string_bytes, IsErrOf, IsOkAnd, IfOk, IfSome};
 ghost use Rattle.ax_io.specs.Count as counts;
 ghost use Rattle.run_top.specs.Answers as answers;
 ghost use Rattle.run_top.specs.Outcomes as outcomes;
@@ -52,6 +52,8 @@ pub fn report<I: Source>(alloc: Global, words: &[String], input: &mut I) -> Resu
     ensures no_read_fault { source_rests.StandsUnlessReadFault (I.faults input.old) (I.faults input.new) result }
     ensures read_fault { IsErrOf result Refused.ReadFault → counts.Rose (I.faults input.old) (I.faults input.new) }
     ensures reports { IfSome (I.content input.old) (λ content. outcomes.Reports string_bytes (answers.judged (outcomes.input_bytes content)) result) }
+    ensures fits { IfOk result (λ _. IfSome (I.content input.old)
+        (λ content. IsOkAnd (answers.judged (outcomes.input_bytes content)) outcomes.IsWithinTypes)) }
 {
     accept(alloc, words)?;
     let bytes = read_up_to(alloc, input, MAX_SCRIPT + 1)?;

@@ -22,12 +22,12 @@ weaker : {T E : Type 0} (r : Result T E) (P Q : T → Type 0) → ((x : T) → P
 weaker (Ok x) P Q h p = h x p
 weaker (Err e) P Q h p = tt
 
-pub returns : goal.returns
-returns c =
+pub returns-clause-text : goal.returns-clause-text
+returns-clause-text c =
     let report = c.args.report.now in
     weaker c.ended.result _ _
     (λ t end. ended_text (string_bytes c.in_ok-to_string.field-0) (string_bytes t) _ (json_form.report_data report) c.in_ok-to_string.ensures.text
-    c.in_ok-report_value.ensures
+    c.in_ok-report_value.ensures.value
     (object_has_no_float (reports.end_word report.end) (reports.act_lines 1 report.history) (map items.item_line report.items) (map items.waiting_line report.waiting))
     end)
     c.ended.ensures
