@@ -63,18 +63,18 @@ sessions_rise (c ∷ cs) rise (suc i) (suc j) d le lt = sessions_rise cs (rest_r
 pub count_is : (n i : ℕ) (cs : List gates.Connection) → i ≤ length cs
     → ((k : ℕ) (d : gates.Connection) → k < i → k < length cs → (get_or cs k d).session < n)
     → ((k : ℕ) (d : gates.Connection) → i ≤ k → k < length cs → n ≤ (get_or cs k d).session)
-    → i ≡ order.count_below n cs
+    → i ≡ order.connections_below n cs
 count_is n i [] within below beyond = omega arith
 count_is n zero (c ∷ cs) within below beyond = rw (not_less_is c.session n (beyond 0 c (omega arith) (omega arith))) refl
 count_is n (suc i) (c ∷ cs) within below beyond =
     rw (less_is c.session n (below 0 c (omega arith) (omega arith)))
     (ap suc (count_is n i cs (omega arith) (λ k d lt inner. below (suc k) d (omega arith) (omega arith)) (λ k d le inner. beyond (suc k) d (omega arith) (omega arith))))
 
-pub count_within : (n : ℕ) (cs : List gates.Connection) → order.count_below n cs ≤ length cs
+pub count_within : (n : ℕ) (cs : List gates.Connection) → order.connections_below n cs ≤ length cs
 count_within n [] = omega arith
 count_within n (c ∷ cs) = by_test (nat_lt c.session n) (count_within n cs)
   where
-    by_test : (b : Bool) → order.count_below n cs ≤ length cs → cond b (suc (order.count_below n cs)) 0 ≤ suc (length cs)
+    by_test : (b : Bool) → order.connections_below n cs ≤ length cs → cond b (suc (order.connections_below n cs)) 0 ≤ suc (length cs)
     by_test true rest = omega arith
     by_test false rest = omega arith
 
@@ -91,26 +91,26 @@ none_above n (c ∷ cs) above =
     let first : n < c.session = above.0 in
     rw (above_apart c.session n first) (none_above n cs (lower n c.session cs (omega arith) above.1))
 
-pub client_there : (n : ℕ) (cs : List gates.Connection) → order.is_connection_of n (slice_get cs (order.count_below n cs)) ≡ true
-    → gates.connection cs n ≡ slice_get cs (order.count_below n cs)
+pub client_there : (n : ℕ) (cs : List gates.Connection) → order.is_connection_of n (slice_get cs (order.connections_below n cs)) ≡ true
+    → gates.connection cs n ≡ slice_get cs (order.connections_below n cs)
 client_there n [] there = absurd (cc)
 client_there n (c ∷ cs) there = by_test (nat_lt c.session n) refl (λ here. client_there n cs here) there
   where
     by_test : (b : Bool) → nat_lt c.session n ≡ b
-        → (order.is_connection_of n (slice_get cs (order.count_below n cs)) ≡ true → gates.connection cs n ≡ slice_get cs (order.count_below n cs))
-        → order.is_connection_of n (slice_get (c ∷ cs) (cond b (suc (order.count_below n cs)) 0)) ≡ true
-        → gates.connection (c ∷ cs) n ≡ slice_get (c ∷ cs) (cond b (suc (order.count_below n cs)) 0)
+        → (order.is_connection_of n (slice_get cs (order.connections_below n cs)) ≡ true → gates.connection cs n ≡ slice_get cs (order.connections_below n cs))
+        → order.is_connection_of n (slice_get (c ∷ cs) (cond b (suc (order.connections_below n cs)) 0)) ≡ true
+        → gates.connection (c ∷ cs) n ≡ slice_get (c ∷ cs) (cond b (suc (order.connections_below n cs)) 0)
     by_test true e more here = rw (not_same c.session n e) (more here)
     by_test false e more here = rw here refl
 
-pub no_client : (n : ℕ) (cs : List gates.Connection) → order.ConnectionsRise cs → order.is_connection_of n (slice_get cs (order.count_below n cs)) ≡ false
+pub no_client : (n : ℕ) (cs : List gates.Connection) → order.ConnectionsRise cs → order.is_connection_of n (slice_get cs (order.connections_below n cs)) ≡ false
     → gates.connection cs n ≡ None
 no_client n [] rise apart = refl
 no_client n (c ∷ cs) rise apart = by_test (nat_lt c.session n) refl (λ here. no_client n cs (rest_rises c.session cs rise) here) apart
   where
     by_test : (b : Bool) → nat_lt c.session n ≡ b
-        → (order.is_connection_of n (slice_get cs (order.count_below n cs)) ≡ false → gates.connection cs n ≡ None)
-        → order.is_connection_of n (slice_get (c ∷ cs) (cond b (suc (order.count_below n cs)) 0)) ≡ false
+        → (order.is_connection_of n (slice_get cs (order.connections_below n cs)) ≡ false → gates.connection cs n ≡ None)
+        → order.is_connection_of n (slice_get (c ∷ cs) (cond b (suc (order.connections_below n cs)) 0)) ≡ false
         → gates.connection (c ∷ cs) n ≡ None
     by_test true e more here = rw (not_same c.session n e) (more here)
     by_test false e more here =
@@ -118,29 +118,29 @@ no_client n (c ∷ cs) rise apart = by_test (nat_lt c.session n) refl (λ here. 
         rw here (none_above n cs (lower n c.session cs (omega arith) rise))
 
 -- a session is connected where it stands, or is to stand
-pub connected_there : (n client : ℕ) (cs : List gates.Connection) → order.is_connection_of n (slice_get cs (order.count_below n cs)) ≡ true
-    → set cs (order.count_below n cs) (record { session = n; client = client }) ≡ gates.connected cs n client
+pub connected_there : (n client : ℕ) (cs : List gates.Connection) → order.is_connection_of n (slice_get cs (order.connections_below n cs)) ≡ true
+    → set cs (order.connections_below n cs) (record { session = n; client = client }) ≡ gates.connected cs n client
 connected_there n client [] there = absurd (cc)
 connected_there n client (c ∷ cs) there = by_test (nat_lt c.session n) refl (λ here. connected_there n client cs here) there
   where
     by_test : (b : Bool) → nat_lt c.session n ≡ b
-        → (order.is_connection_of n (slice_get cs (order.count_below n cs)) ≡ true
-        → set cs (order.count_below n cs) (record { session = n; client = client }) ≡ gates.connected cs n client)
-        → order.is_connection_of n (slice_get (c ∷ cs) (cond b (suc (order.count_below n cs)) 0)) ≡ true
-        → set (c ∷ cs) (cond b (suc (order.count_below n cs)) 0) (record { session = n; client = client }) ≡ gates.connected (c ∷ cs) n client
+        → (order.is_connection_of n (slice_get cs (order.connections_below n cs)) ≡ true
+        → set cs (order.connections_below n cs) (record { session = n; client = client }) ≡ gates.connected cs n client)
+        → order.is_connection_of n (slice_get (c ∷ cs) (cond b (suc (order.connections_below n cs)) 0)) ≡ true
+        → set (c ∷ cs) (cond b (suc (order.connections_below n cs)) 0) (record { session = n; client = client }) ≡ gates.connected (c ∷ cs) n client
     by_test true e more here = rw (not_same c.session n e, not_more c.session n e) (ap (λ (rest : List gates.Connection). c ∷ rest) (more here))
     by_test false e more here = rw here refl
 
-pub connected_new : (n client : ℕ) (cs : List gates.Connection) → order.is_connection_of n (slice_get cs (order.count_below n cs)) ≡ false
-    → insert cs (order.count_below n cs) (record { session = n; client = client }) ≡ gates.connected cs n client
+pub connected_new : (n client : ℕ) (cs : List gates.Connection) → order.is_connection_of n (slice_get cs (order.connections_below n cs)) ≡ false
+    → insert cs (order.connections_below n cs) (record { session = n; client = client }) ≡ gates.connected cs n client
 connected_new n client [] apart = refl
 connected_new n client (c ∷ cs) apart = by_test (nat_lt c.session n) refl (λ here. connected_new n client cs here) apart
   where
     by_test : (b : Bool) → nat_lt c.session n ≡ b
-        → (order.is_connection_of n (slice_get cs (order.count_below n cs)) ≡ false
-        → insert cs (order.count_below n cs) (record { session = n; client = client }) ≡ gates.connected cs n client)
-        → order.is_connection_of n (slice_get (c ∷ cs) (cond b (suc (order.count_below n cs)) 0)) ≡ false
-        → insert (c ∷ cs) (cond b (suc (order.count_below n cs)) 0) (record { session = n; client = client }) ≡ gates.connected (c ∷ cs) n client
+        → (order.is_connection_of n (slice_get cs (order.connections_below n cs)) ≡ false
+        → insert cs (order.connections_below n cs) (record { session = n; client = client }) ≡ gates.connected cs n client)
+        → order.is_connection_of n (slice_get (c ∷ cs) (cond b (suc (order.connections_below n cs)) 0)) ≡ false
+        → insert (c ∷ cs) (cond b (suc (order.connections_below n cs)) 0) (record { session = n; client = client }) ≡ gates.connected (c ∷ cs) n client
     by_test true e more here = rw (not_same c.session n e, not_more c.session n e) (ap (λ (rest : List gates.Connection). c ∷ rest) (more here))
     by_test false e more here = rw (here, is_more c.session n e here) refl
 
@@ -177,25 +177,25 @@ connected_rise n client (c ∷ cs) rise = by_same (nat_eq c.session n) refl
     by_same false e = by_less (nat_lt n c.session) refl e
 
 -- the same at the place that was found
-pub found_there : (n i : ℕ) (cs : List gates.Connection) (c : gates.Connection) → i ≡ order.count_below n cs → order.is_connection_of n (slice_get cs i) ≡ true
+pub found_there : (n i : ℕ) (cs : List gates.Connection) (c : gates.Connection) → i ≡ order.connections_below n cs → order.is_connection_of n (slice_get cs i) ≡ true
     → c ≡ get_or cs i c → Some c ≡ gates.connection cs n
 found_there n i cs c at there is =
-    let here : order.is_connection_of n (slice_get cs (order.count_below n cs)) ≡ true = subst (λ (k : ℕ). order.is_connection_of n (slice_get cs k) ≡ true) at there in
+    let here : order.is_connection_of n (slice_get cs (order.connections_below n cs)) ≡ true = subst (λ (k : ℕ). order.is_connection_of n (slice_get cs k) ≡ true) at there in
     let item : slice_get cs i ≡ Some c = slice_get_read cs (length cs) i c refl (there_within n cs i there) is in
     sym (client_there n cs here ∙ (ap (slice_get cs) (sym at) ∙ item))
 
-pub none_there : (n i : ℕ) (cs : List gates.Connection) → order.ConnectionsRise cs → i ≡ order.count_below n cs → order.is_connection_of n (slice_get cs i) ≡ false
+pub none_there : (n i : ℕ) (cs : List gates.Connection) → order.ConnectionsRise cs → i ≡ order.connections_below n cs → order.is_connection_of n (slice_get cs i) ≡ false
     → None ≡ gates.connection cs n
 none_there n i cs rise at apart =
     sym (no_client n cs rise (subst (λ (k : ℕ). order.is_connection_of n (slice_get cs k) ≡ false) at apart))
 
-pub set_there : (n client i : ℕ) (cs : List gates.Connection) → i ≡ order.count_below n cs → order.is_connection_of n (slice_get cs i) ≡ true
+pub set_there : (n client i : ℕ) (cs : List gates.Connection) → i ≡ order.connections_below n cs → order.is_connection_of n (slice_get cs i) ≡ true
     → set cs i (record { session = n; client = client }) ≡ gates.connected cs n client
 set_there n client i cs at there =
     ap (λ (k : ℕ). set cs k (record { session = n; client = client })) at
     ∙ connected_there n client cs (subst (λ (k : ℕ). order.is_connection_of n (slice_get cs k) ≡ true) at there)
 
-pub insert_there : (n client i : ℕ) (cs : List gates.Connection) → i ≡ order.count_below n cs → order.is_connection_of n (slice_get cs i) ≡ false
+pub insert_there : (n client i : ℕ) (cs : List gates.Connection) → i ≡ order.connections_below n cs → order.is_connection_of n (slice_get cs i) ≡ false
     → insert cs i (record { session = n; client = client }) ≡ gates.connected cs n client
 insert_there n client i cs at apart =
     ap (λ (k : ℕ). insert cs k (record { session = n; client = client })) at

@@ -12,9 +12,9 @@ ConnectionsRise [] = Unit {0}
 ConnectionsRise (c ∷ cs) = RiseAbove c.session cs
 
 -- how many connections stand before the place of a session
-abbrev pub count_below : ℕ → List gates.Connection → ℕ
-count_below session [] = 0
-count_below session (c ∷ cs) = if nat_lt c.session session then suc (count_below session cs) else 0
+abbrev pub connections_below : ℕ → List gates.Connection → ℕ
+connections_below session [] = 0
+connections_below session (c ∷ cs) = if nat_lt c.session session then suc (connections_below session cs) else 0
 
 -- whether a connection is there, and is of this session
 abbrev pub is_connection_of : ℕ → Option gates.Connection → Bool

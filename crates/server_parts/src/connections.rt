@@ -98,7 +98,7 @@ impl Connections {
 
     /// How many connections stand before the place of a session.
     fn index(&self, session: u64) -> usize
-        ensures index { result ≡ connection_order.count_below session self.now }
+        ensures index { result ≡ connection_order.connections_below session self.now }
         ensures within { result ≤ length self.now }
     {
         self.all

@@ -24,4 +24,4 @@ returns-clause-index c =
     λ k d lt inner. grind (arith, common_steps, point.0 k d (omega arith) lt) in
     let higher : (k : ℕ) (d : gates.Connection) → i ≤ k → k < length cs → n ≤ (get_or cs k d).session =
     λ k d le inner. grind (arith, common_steps, point.1 k d le inner) in
-    subst (λ (bs : List gates.Connection). i ≡ order.count_below n bs) c.self.view_is (count_is n i cs within lower higher)
+    subst (λ (bs : List gates.Connection). i ≡ order.connections_below n bs) c.self.view_is (count_is n i cs within lower higher)
