@@ -49,6 +49,13 @@ impl Log {
         List::from_vec(self.entries)
     }
 
+    /// The entries, from the first to the last.
+    pub fn as_slice(&self) -> &[Entry]
+        ensures { result.now ≡ self.now }
+    {
+        self.entries.as_slice()
+    }
+
     /// The place of the last entry, 0 where there is none.
     pub fn last(&self) -> u64
         ensures last { result ≡ length self.now }
