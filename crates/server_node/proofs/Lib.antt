@@ -1,1 +1,1 @@
-pub mod PacketTasks
+pub mod RaftTasks

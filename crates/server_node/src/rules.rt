@@ -174,7 +174,7 @@ fn take(
             heard,
         } => connect(
             parts,
-            Hearing {
+            &Hearing {
                 client: *client,
                 session: *session,
                 heard: *heard,
@@ -319,16 +319,16 @@ fn read(parts: &mut Parts, held: Held) -> Result<ServerOut, NoMemory>
 }
 
 /// The step for a session that is connected here from now on.
-fn connect(parts: &mut Parts, hearing: Hearing) -> Result<ServerOut, NoMemory>
+fn connect(parts: &mut Parts, hearing: &Hearing) -> Result<ServerOut, NoMemory>
     requires { parts.old.is_spent ≡ false }
-    ensures out { IfOk result (λ out. out ≡ asked.out_for parts.old.server (asked.asks_of (record { passed = None; held = None; read = None; connect = Some hearing; hearing = Some hearing }))) }
-    ensures after { OnOk result (parts.new ≡ record { server = asked.after_for parts.old.server (asked.asks_of (record { passed = None; held = None; read = None; connect = Some hearing; hearing = Some hearing })); is_spent = false }) }
+    ensures out { IfOk result (λ out. out ≡ asked.out_for parts.old.server (asked.asks_of (record { passed = None; held = None; read = None; connect = Some hearing.now; hearing = Some hearing.now }))) }
+    ensures after { OnOk result (parts.new ≡ record { server = asked.after_for parts.old.server (asked.asks_of (record { passed = None; held = None; read = None; connect = Some hearing.now; hearing = Some hearing.now })); is_spent = false }) }
 {
     rest(
         parts,
         Asks {
-            connect: Some(hearing),
-            hearing: Some(hearing),
+            connect: Some(*hearing),
+            hearing: Some(*hearing),
             ..Asks::nothing()
         },
     )
