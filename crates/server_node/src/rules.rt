@@ -8,9 +8,7 @@ ghost use Rattle.spec_server.specs.ServerStep as server_steps;
 ghost use Rattle.server_parts.specs.StepAsks as asked;
 ghost use Rattle.server_node.specs.ServerConditions as conditions;
 
-use ax_types::{
-    Body, Duplicate, End, Held, Level, List, NoMemory, Packet, Payload, ServerOut,
-};
+use ax_types::{Body, Duplicate, End, Held, Level, List, NoMemory, Packet, Payload, ServerOut};
 use server_parts::{Asks, Hearing, Parts};
 use std::alloc::Global;
 
@@ -80,12 +78,7 @@ fn needs_leader(payload: &Payload) -> bool
 }
 
 /// The step for a packet that this node carries out.
-fn take(
-    parts: &mut Parts,
-    clock: u64,
-    from: &End,
-    payload: &Payload,
-) -> Result<ServerOut, NoMemory>
+fn take(parts: &mut Parts, clock: u64, from: &End, payload: &Payload) -> Result<ServerOut, NoMemory>
     requires spent { parts.old.is_spent ≡ false }
     requires comes { conditions.ComesFrom parts.old.server from.now payload.now }
     requires leads { conditions.needs_leader payload.now ≡ true → servers.leads parts.old.server ≡ true }
@@ -207,12 +200,7 @@ fn rest(parts: &mut Parts, asks: Asks) -> Result<ServerOut, NoMemory>
 }
 
 /// The step for a packet of Raft from another node; from a client it is none.
-fn hear(
-    parts: &mut Parts,
-    clock: u64,
-    from: &End,
-    payload: &Payload,
-) -> Result<ServerOut, NoMemory>
+fn hear(parts: &mut Parts, clock: u64, from: &End, payload: &Payload) -> Result<ServerOut, NoMemory>
     requires spent { parts.old.is_spent ≡ false }
     requires other { conditions.IsOther parts.old.server from.now }
     ensures out { IfOk result (λ out. out ≡ asked.out_for parts.old.server (servers.raft_message clock from.now payload.now)) }
