@@ -1,0 +1,3 @@
+pub mod ConnectionOrder
+pub mod StepAsks
+pub mod ServerStates
