@@ -1,0 +1,2 @@
+pub mod ConnectionAt
+pub mod ReadsGiven

@@ -1,3 +1,4 @@
 pub mod ConnectionOrder
-pub mod StepAsks
 pub mod ServerStates
+pub mod StepAsks
+pub mod StepStages

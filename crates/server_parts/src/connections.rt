@@ -1,6 +1,7 @@
-ghost use Rattle.std.specs.Prelude.{◌≡◌, [], OnOk, OnErr};
-ghost use Rattle.std.specs.Option.{option_map};
+ghost use Rattle.std.specs.Prelude.{◌≡◌, ◌≤◌, [], length, slice_get, OnOk, OnErr};
+ghost use Rattle.std.specs.Option.{option_copied};
 ghost use Rattle.spec_server.specs.Gates as gates;
+ghost use Rattle.server_parts.specs.ConnectionOrder as connection_order;
 
 use ax_types::{ClientId, NoMemory};
 use std::alloc::Global;
@@ -23,6 +24,22 @@ impl Model for Connection {
     ghost inverse = { λ c. record { session = c.session; client = c.client } };
 }
 
+impl Connection {
+    /// The session.
+    fn session(&self) -> u64
+        ensures { result ≡ self.now.session }
+    {
+        self.session
+    }
+
+    /// The client.
+    pub fn client(&self) -> ClientId
+        ensures { result ≡ self.now.client }
+    {
+        self.client
+    }
+}
+
 /// The sessions that are connected to a server, in order of session.
 #[derive(Drop)]
 pub struct Connections {
@@ -32,13 +49,13 @@ pub struct Connections {
 impl Model for Connections {
     ghost use Rattle.std.specs.Prelude.{List as Items};
     ghost use Rattle.spec_server.specs.Gates as gates;
-    ghost use Rattle.server_parts.specs.ConnectionOrder as ascending;
+    ghost use Rattle.server_parts.specs.ConnectionOrder as connection_order;
 
     ghost Value = { Items gates.Connection };
 
     ghost view = { λ a. a.all.items };
 
-    ghost invariant = { λ a. ascending.ConnectionsAscend a.all.items };
+    ghost invariant = { λ a. connection_order.ConnectionsRise a.all.items };
 }
 
 impl Connections {
@@ -56,32 +73,45 @@ impl Connections {
         ensures ok { OnOk result (self.new ≡ gates.connected self.old session client) }
         ensures err { OnErr result (self.new ≡ self.old) }
     {
-        let index = self.index(session);
+        let place = self.index(session);
         let connection = Connection { session, client };
-        if index < self.all.len() && self.all[index].session == session {
-            self.all[index] = connection;
+        if self.is_at(place, session) {
+            self.all[place] = connection;
         } else {
-            self.all.insert(index, connection)?;
+            self.all.insert(place, connection)?;
         }
         Ok(())
     }
 
-    /// The client of a session that is connected.
-    pub fn client(&self, session: u64) -> Option<ClientId>
-        ensures { result ≡ option_map (λ c. c.client) (gates.connection self.now session) }
+    /// The connection of a session.
+    pub fn connection(&self, session: u64) -> Option<&Connection>
+        ensures { option_copied result ≡ gates.connection self.now session }
     {
-        let index = self.index(session);
-        if index < self.all.len() && self.all[index].session == session {
-            return Some(self.all[index].client);
+        let place = self.index(session);
+        if self.is_at(place, session) {
+            let found = &self.all[place];
+            Some(found)
+        } else {
+            None
         }
-        None
     }
 
-    /// How many connected sessions are below this one.
+    /// How many connections stand before the place of a session.
     fn index(&self, session: u64) -> usize
-        ensures { result ≡ ascending.count_below session self.now }
+        ensures index { result ≡ connection_order.count_below session self.now }
+        ensures within { result ≤ length self.now }
     {
         self.all
-            .partition_point(|connection| connection.session < session)
+            .partition_point(|connection| connection.session() < session)
+    }
+
+    /// Whether the connection of a session stands there.
+    fn is_at(&self, index: usize, session: u64) -> bool
+        ensures { result ≡ connection_order.is_connection_of session (slice_get self.now index) }
+    {
+        match self.all.get(index) {
+            Some(connection) => connection.session() == session,
+            None => false,
+        }
     }
 }
