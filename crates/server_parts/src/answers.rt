@@ -1,5 +1,7 @@
-ghost use Rattle.std.specs.Prelude.{◌≡◌, ◌++◌, map, IfOk, OnOk};
+ghost use Rattle.std.specs.Prelude.{◌≡◌, ◌&&◌, [], ◌∷◌, ◌++◌, map, nat_eq, OnOk};
 ghost use Rattle.std.specs.Option.{option_map};
+ghost use Rattle.spec_node.specs.Node as nodes;
+ghost use Rattle.spec_server.specs.Gates as gates;
 ghost use Rattle.spec_server.specs.ServerStep as server_steps;
 ghost use Rattle.server_parts.specs.StepAsks as asks;
 
@@ -12,7 +14,7 @@ use raft_node::RaftNode;
 use sess_state::SessState;
 
 /// A packet to a client.
-pub fn to_client(raft: &RaftNode, client: ClientId, payload: Payload) -> Packet
+fn to_client(raft: &RaftNode, client: ClientId, payload: Payload) -> Packet
     ensures { result ≡ server_steps.to_client raft.now client payload }
 {
     Packet {
@@ -22,7 +24,28 @@ pub fn to_client(raft: &RaftNode, client: ClientId, payload: Payload) -> Packet
     }
 }
 
-/// An entry's answer is the leader's of its own term alone. It is put behind the packets.
+/// An answer as a packet, where there is one. It is put behind the packets.
+fn answer_to(
+    raft: &RaftNode,
+    answer: Option<(ClientId, Payload)>,
+    packets: &mut List<Packet>,
+) -> Result<(), NoMemory>
+    ensures { OnOk result (packets.new ≡ packets.old ++ server_steps.answers_to raft.now answer) }
+{
+    match answer {
+        Some((client, payload)) => packets.push(to_client(raft, client, payload)),
+        None => Ok(()),
+    }
+}
+
+/// Whether an entry's answer is given here: the leader gives it for the entries of its own term alone.
+fn is_answered(raft: &RaftNode, entry: &Entry) -> bool
+    ensures { result ≡ (nodes.is_leader raft.now && nat_eq entry.now.term raft.now.ballot.term) }
+{
+    raft.is_leader() && entry.term == raft.term()
+}
+
+/// The answer of an entry, where it is given here. It is put behind the packets.
 pub fn answer_entry(
     raft: &RaftNode,
     entry: &Entry,
@@ -31,12 +54,11 @@ pub fn answer_entry(
 ) -> Result<(), NoMemory>
     ensures { OnOk result (packets.new ≡ packets.old ++ server_steps.entry_answer raft.now entry.now answer) }
 {
-    if raft.is_leader() && entry.term == raft.term() {
-        if let Some((client, payload)) = answer {
-            packets.push(to_client(raft, client, payload))?;
-        }
+    if is_answered(raft, entry) {
+        answer_to(raft, answer, packets)
+    } else {
+        Ok(())
     }
-    Ok(())
 }
 
 /// A batch as a payload.
@@ -51,7 +73,27 @@ fn batch_payload(session: u64, batch: Batch) -> Payload
     }
 }
 
-/// Batches go to the sessions that are connected here, whoever leads. They are put behind the packets.
+/// A batch goes to its session where that is connected here, whoever leads. It is put behind the packets.
+fn send_batch(
+    raft: &RaftNode,
+    connections: &Connections,
+    told: (u64, Batch),
+    packets: &mut List<Packet>,
+) -> Result<(), NoMemory>
+    ensures { OnOk result (packets.new ≡ packets.old ++ server_steps.batch_to raft.now told.0 told.1 (gates.connection connections.now told.0)) }
+{
+    let (session, batch) = told;
+    match connections.connection(session) {
+        Some(found) => packets.push(to_client(
+            raft,
+            found.client(),
+            batch_payload(session, batch),
+        )),
+        None => Ok(()),
+    }
+}
+
+/// Batches go to their sessions. They are put behind the packets.
 pub fn send_batches(
     raft: &RaftNode,
     connections: &Connections,
@@ -60,12 +102,20 @@ pub fn send_batches(
 ) -> Result<(), NoMemory>
     ensures { OnOk result (packets.new ≡ packets.old ++ server_steps.batches_to raft.now connections.now batches) }
 {
-    'batches: for (session, batch) in batches.into_vec() {
-        if let Some(client) = connections.client(session) {
-            packets.push(to_client(raft, client, batch_payload(session, batch)))?;
-        }
+    'batches: for told in batches.into_vec() {
+        send_batch(raft, connections, told, packets)?;
     }
     Ok(())
+}
+
+/// The term and the arrival of a reach, 0 where there is none.
+fn reach_numbers(reach: Option<(u64, u64)>) -> (u64, u64)
+    ensures { result ≡ (server_steps.reach_term reach, server_steps.reach_arrival reach) }
+{
+    match reach {
+        Some(numbers) => numbers,
+        None => (0, 0),
+    }
 }
 
 /// The answer to a query that was let through (Ongaro 2014, 6.4).
@@ -78,7 +128,7 @@ fn answer_payload(held: &Held, asked: Asked) -> Payload
             events,
             reply,
         } => {
-            let (term, arrival) = held.reach.unwrap_or((0, 0));
+            let (term, arrival) = reach_numbers(held.reach);
             Payload::Answer {
                 session: held.session,
                 call: held.call,
@@ -98,18 +148,30 @@ fn answer_payload(held: &Held, asked: Asked) -> Payload
     }
 }
 
+/// The answer to a query that was let through, as a packet. It is put behind the packets.
+fn answer_query(
+    raft: &RaftNode,
+    state: &SessState,
+    held: &Held,
+    packets: &mut List<Packet>,
+) -> Result<(), NoMemory>
+    ensures { OnOk result (packets.new ≡ packets.old ++ server_steps.query_answer raft.now state.now.sessions held.now ∷ []) }
+{
+    let asked = state.ask(held.session, &held.name, &held.query)?;
+    packets.push(to_client(raft, held.client, answer_payload(held, asked)))
+}
+
 /// The answers to the queries that were let through. They are put behind the packets.
 pub fn answer_queries(
     raft: &RaftNode,
     state: &SessState,
-    through: &[Held],
+    through: List<Held>,
     packets: &mut List<Packet>,
 ) -> Result<(), NoMemory>
-    ensures { OnOk result (packets.new ≡ packets.old ++ map (server_steps.query_answer raft.now state.now.sessions) through.now) }
+    ensures { OnOk result (packets.new ≡ packets.old ++ map (server_steps.query_answer raft.now state.now.sessions) through) }
 {
-    'queries: for held in through {
-        let asked = state.ask(held.session, &held.name, &held.query)?;
-        packets.push(to_client(raft, held.client, answer_payload(held, asked)))?;
+    'queries: for held in through.into_vec() {
+        answer_query(raft, state, &held, packets)?;
     }
     Ok(())
 }
@@ -130,17 +192,18 @@ fn send_heard(
     Ok(())
 }
 
-/// The answer to Connect and Reset: the end of the session, or its first batches above what it has heard. It is put behind
-/// the packets.
-pub fn answer_hearing(
+/// The answer to Connect and Reset of a session in this state: its end, or its first batches above what it has heard. It is
+/// put behind the packets.
+fn answer_state(
     raft: &RaftNode,
     state: &SessState,
     hearing: Hearing,
+    known: SessionState,
     packets: &mut List<Packet>,
 ) -> Result<(), NoMemory>
-    ensures { OnOk result (packets.new ≡ packets.old ++ server_steps.hearing_answer raft.now state.now.sessions (option_map asks.hearing_of (Some hearing))) }
+    ensures { OnOk result (packets.new ≡ packets.old ++ server_steps.hearing_state raft.now state.now.sessions (asks.hearing_of hearing) known) }
 {
-    match state.state_of(hearing.session) {
+    match known {
         SessionState::Unknown => Ok(()),
         SessionState::Live => {
             let batches = state.after(hearing.session, hearing.heard)?;
@@ -154,5 +217,23 @@ pub fn answer_hearing(
             };
             packets.push(to_client(raft, hearing.client, ended))
         }
+    }
+}
+
+/// The answer to Connect and Reset, where one of them came. It is put behind the packets.
+pub fn answer_hearing(
+    raft: &RaftNode,
+    state: &SessState,
+    hearing: Option<Hearing>,
+    packets: &mut List<Packet>,
+) -> Result<(), NoMemory>
+    ensures { OnOk result (packets.new ≡ packets.old ++ server_steps.hearing_answer raft.now state.now.sessions (option_map asks.hearing_of hearing)) }
+{
+    match hearing {
+        Some(hearing) => {
+            let known = state.state_of(hearing.session);
+            answer_state(raft, state, hearing, known, packets)
+        }
+        None => Ok(()),
     }
 }

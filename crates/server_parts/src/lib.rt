@@ -4,6 +4,7 @@
 
 mod answers;
 mod connections;
+mod holding;
 mod parts;
 mod places;
 mod readings;

@@ -1,17 +1,18 @@
-ghost use Rattle.std.specs.Prelude.{◌≡◌, ◌≤◌, [], Some, false, IfOk, OnOk};
+ghost use Rattle.std.specs.Prelude.{◌≡◌, ◌≤◌, ◌++◌, [], false, IfOk, OnOk};
+ghost use Rattle.std.specs.Option.{option_map};
 ghost use Rattle.ax_types.specs.declared.limits.TheConstants.{MAX_TIMEOUT};
-ghost use Rattle.spec_server.specs.Gates as gates;
-ghost use Rattle.spec_server.specs.Servers as servers;
 ghost use Rattle.spec_server.specs.ServerStep as server_steps;
-ghost use Rattle.spec_sessions.specs.Sessions as sessions;
+ghost use Rattle.spec_sessions.specs.Sessions as session_states;
 ghost use Rattle.server_parts.specs.StepAsks as asked;
+ghost use Rattle.server_parts.specs.StepStages as stages;
 
 use crate::answers::{answer_hearing, answer_queries};
 use crate::connections::Connections;
+use crate::holding::hold_all;
 use crate::places::apply_all;
 use crate::readings::Readings;
-use crate::requests::Asks;
-use ax_types::{Held, HoldRefused, Item, List, NoMemory, Out, Saves, ServerOut};
+use crate::requests::{Asks, Hearing};
+use ax_types::{Act, Held, Item, List, NoMemory, Out, Packet, Saves, ServerOut};
 use query_gate::QueryGate;
 use raft_node::RaftNode;
 use sess_state::SessState;
@@ -42,7 +43,7 @@ impl Parts {
     pub fn around(alloc: Global, raft: RaftNode, timeout: u64) -> Self
         requires low { 1 ≤ timeout }
         requires high { timeout ≤ MAX_TIMEOUT }
-        ensures { result ≡ record { server = record { raft = raft; state = sessions.new_sessions timeout; gate = []; readings = []; connections = [] }; is_spent = false } }
+        ensures { result ≡ record { server = record { raft = raft; state = session_states.new_sessions timeout; gate = []; readings = []; connections = [] }; is_spent = false } }
     {
         Parts {
             alloc,
@@ -73,36 +74,18 @@ impl Parts {
     }
 
     /// What a step does once the Raft node has stepped and given this: the places newly committed, the gate, and the answers.
+    /// After want of memory the step may be half done.
     pub fn finish(&mut self, out: Out, asks: Asks) -> Result<ServerOut, NoMemory>
         requires { self.old.is_spent ≡ false }
         ensures out { IfOk result (λ o. o ≡ server_steps.out_at (asked.stage_behind self.old.server out (asked.asks_of asks)) (asked.asks_of asks)) }
         ensures after { OnOk result (self.new ≡ record { server = server_steps.server_at (asked.stage_behind self.old.server out (asked.asks_of asks)); is_spent = false }) }
     {
-        if let Some(hearing) = asks.connect {
-            self.connections.connect(hearing.session, hearing.client)?;
-        }
-        let reach = self.begin_reading(asks.read, out.reached)?;
+        let reach = self.take_up(asks.connect, asks.read, out.reached)?;
         let mut packets = out.packets;
-        if let Some(packet) = asks.passed {
-            packets.push(packet)?;
-        }
-        let acts = apply_all(
-            self.alloc,
-            &self.raft,
-            &self.connections,
-            &mut self.state,
-            &mut packets,
-        )?;
-        if let Some(held) = asks.held {
-            self.hold(held)?;
-        }
-        self.hold_ready(out.reads.as_slice())?;
-        self.end_readings(out.reads.as_slice());
-        let through = self.gate.release(&self.state)?;
-        answer_queries(&self.raft, &self.state, through.as_slice(), &mut packets)?;
-        if let Some(hearing) = asks.hearing {
-            answer_hearing(&self.raft, &self.state, hearing, &mut packets)?;
-        }
+        pass_on(asks.passed, &mut packets)?;
+        let acts = self.catch_up(&mut packets)?;
+        self.hold(asks.held, out.reads)?;
+        self.let_go(asks.hearing, &mut packets)?;
         Ok(ServerOut {
             saves: out.saves,
             packets,
@@ -113,73 +96,91 @@ impl Parts {
         })
     }
 
+    /// A session is connected, and a read that was taken waits with its query, which is told.
+    fn take_up(
+        &mut self,
+        connect: Option<Hearing>,
+        read: Option<Held>,
+        reached: Option<u64>,
+    ) -> Result<Option<Item>, NoMemory>
+        ensures reach { IfOk result (λ reach. reach ≡ server_steps.reach_item self.old.server.raft read reached) }
+        ensures after { OnOk result (self.new ≡ record { server = stages.taken_up self.old.server (option_map asked.hearing_of connect) read reached; is_spent = self.old.is_spent }) }
+    {
+        connect_session(&mut self.connections, connect)?;
+        let reach = self.readings.begin(&self.raft, read, reached)?;
+        Ok(reach)
+    }
+
+    /// The places newly committed are applied: what they send is put behind the packets, and the time and the act of each are
+    /// given.
+    fn catch_up(&mut self, packets: &mut List<Packet>) -> Result<List<(u64, Act)>, NoMemory>
+        requires { self.old.is_spent ≡ false }
+        ensures acts { IfOk result (λ acts. acts ≡ (stages.progress_in self.old.server).acts) }
+        ensures packets { OnOk result (packets.new ≡ packets.old ++ (stages.progress_in self.old.server).packets) }
+        ensures after { OnOk result (self.new ≡ record { server = stages.caught_up self.old.server; is_spent = false }) }
+    {
+        let acts = apply_all(
+            self.alloc,
+            &self.raft,
+            &self.connections,
+            &mut self.state,
+            packets,
+        )?;
+        Ok(acts)
+    }
+
+    /// A query that came and those of the reads that are ready wait at the gate.
+    fn hold(&mut self, held: Option<Held>, reads: List<(u64, u64)>) -> Result<(), NoMemory>
+        ensures { OnOk result (self.new ≡ record { server = stages.gated self.old.server (asked.listed held) reads; is_spent = self.old.is_spent }) }
+    {
+        hold_all(&mut self.gate, &self.readings, held, reads.as_slice())?;
+        self.readings.end(&self.raft, reads.as_slice());
+        Ok(())
+    }
+
+    /// The queries that the state is new enough for are let through and answered, and then Connect and Reset. The answers are
+    /// put behind the packets.
+    fn let_go(
+        &mut self,
+        hearing: Option<Hearing>,
+        packets: &mut List<Packet>,
+    ) -> Result<(), NoMemory>
+        ensures packets { OnOk result (packets.new ≡ stages.with_answers packets.old self.old.server (option_map asked.hearing_of hearing)) }
+        ensures after { OnOk result (self.new ≡ record { server = stages.let_go self.old.server; is_spent = self.old.is_spent }) }
+    {
+        let through = self.gate.release(&self.state)?;
+        answer_queries(&self.raft, &self.state, through, packets)?;
+        answer_hearing(&self.raft, &self.state, hearing, packets)?;
+        Ok(())
+    }
+
     /// The term, where the node became its leader.
     fn led_term(&self, led: bool) -> Option<u64>
         ensures { result ≡ server_steps.led_term self.now.server.raft led }
     {
         if led { Some(self.raft.term()) } else { None }
     }
+}
 
-    /// A read that was taken waits with its query, which is told.
-    fn begin_reading(
-        &mut self,
-        read: Option<Held>,
-        reached: Option<u64>,
-    ) -> Result<Option<Item>, NoMemory>
-        ensures reach { IfOk result (λ reach. reach ≡ server_steps.reach_item self.old.server.raft read reached) }
-        ensures after { OnOk result (self.new ≡ record self.old { server = record self.old.server { readings = server_steps.with_reading self.old.server.readings self.old.server.raft.ballot.term read reached } }) }
-    {
-        let (Some(held), Some(arrival)) = (read, reached) else {
-            return Ok(None);
-        };
-        let term = self.raft.term();
-        let reach = Item::Reach {
-            node: self.raft.me(),
-            term,
-            arrival,
-            session: held.session,
-            number: held.call,
-        };
-        self.readings.add(
-            arrival,
-            Held {
-                reach: Some((term, arrival)),
-                ..held
-            },
-        )?;
-        Ok(Some(reach))
+/// A session is connected, where one is to be.
+fn connect_session(
+    connections: &mut Connections,
+    connect: Option<Hearing>,
+) -> Result<(), NoMemory>
+    ensures { OnOk result (connections.new ≡ server_steps.with_connection connections.old (option_map asked.hearing_of connect)) }
+{
+    match connect {
+        Some(hearing) => connections.connect(hearing.session, hearing.client),
+        None => Ok(()),
     }
+}
 
-    /// Holds one more query, unless as many are held as may be.
-    fn hold(&mut self, held: Held) -> Result<(), NoMemory>
-        ensures { OnOk result (self.new ≡ record self.old { server = record self.old.server { gate = gates.with_held self.old.server.gate held } }) }
-    {
-        match self.gate.hold(held) {
-            Ok(()) | Err(HoldRefused::Dropped) => Ok(()),
-            Err(HoldRefused::NoMemory) => Err(NoMemory),
-        }
-    }
-
-    /// Holds the queries of the reads that are ready.
-    fn hold_ready(&mut self, reads: &[(u64, u64)]) -> Result<(), NoMemory>
-        ensures { OnOk result (self.new ≡ record self.old { server = record self.old.server { gate = gates.with_all_held self.old.server.gate (gates.ready_held self.old.server.readings reads.now) } }) }
-    {
-        'reads: for read in reads {
-            if let Some(held) = self.readings.reading_at(read.0, read.1)? {
-                self.hold(held)?;
-            }
-        }
-        Ok(())
-    }
-
-    /// The queries of the reads that are ready wait for no read any more, and a node that does not lead has no reads.
-    fn end_readings(&mut self, reads: &[(u64, u64)])
-        ensures { self.new ≡ record self.old { server = record self.old.server { readings = server_steps.readings_after self.old.server.raft self.old.server.readings reads.now } } }
-    {
-        if self.raft.is_leader() {
-            self.readings.forget(reads);
-        } else {
-            self.readings.clear();
-        }
+/// A packet that is passed on, where one is. It is put behind the packets.
+fn pass_on(passed: Option<Packet>, packets: &mut List<Packet>) -> Result<(), NoMemory>
+    ensures { OnOk result (packets.new ≡ packets.old ++ asked.listed passed) }
+{
+    match passed {
+        Some(packet) => packets.push(packet),
+        None => Ok(()),
     }
 }

@@ -12,4 +12,4 @@ returns-then-not-is_empty c =
     ∙ ap (λ (ws : List gates.WaitingQuery). filter (λ (w : gates.WaitingQuery). not (gates.is_given c.args.reads.now w.arrival)) ws) c.self.view_is
 
 pub returns-else-not-is_empty : goal.returns-else-not-is_empty
-returns-else-not-is_empty c = none_given c.args.self.now c.args.reads.now (c.if-not-is_empty.ensures tt)
+returns-else-not-is_empty c = none_given c.args.self.now c.args.reads.now c.if-not-is_empty.ensures
