@@ -1,5 +1,5 @@
 -- The places that are applied so far, and those that are left.
-use Rattle.std.proofs.Common.{◌≡◌, ℕ, zero, suc, ◌+◌, ◌<◌, ◌≤◌, ◌∙◌, refl, sym, ap, subst, arith, add-one, false, List, [], ◌∷◌, ◌++◌, append-nil, append_assoc, Option, Some, take, drop, slice_get}
+use Rattle.std.proofs.Common.{◌≡◌, ℕ, zero, suc, ◌+◌, ◌<◌, ◌≤◌, ◌∙◌, refl, sym, ap, subst, arith, Bool, false, List, [], ◌∷◌, ◌++◌, append-nil, append_assoc, Option, Some, take, drop, slice_get}
 use Rattle.ax_types.specs.Places as lists
 use Rattle.ax_types.specs.declared.entries.Act.{Act}
 use Rattle.ax_types.specs.declared.entries.Entry.{Entry}
@@ -34,15 +34,15 @@ one_applied : (n : nodes.Node) (cs : List gates.Connection) (s : session_states.
 one_applied n cs s e at less = ap (λ (es : List Entry). server_steps.applying_all n cs s es) (drop_front n.log s.applied n.commit e at less)
 
 pub record SoFar (n : nodes.Node) (cs : List gates.Connection) (old : server_sessions.ServerSessions) (sent : List Packet) (now : server_sessions.ServerSessions) (packets : List Packet) (acts : List (ℕ × Act)) (before : ℕ) : Type 0 where
-  pub acts : acts ++ (stages.all_applied n cs now.sessions).acts ≡ (stages.all_applied n cs old.sessions).acts
-  pub packets : packets ++ (stages.all_applied n cs now.sessions).packets ≡ sent ++ (stages.all_applied n cs old.sessions).packets
+  pub did : acts ++ (stages.all_applied n cs now.sessions).acts ≡ (stages.all_applied n cs old.sessions).acts
+  pub sends : packets ++ (stages.all_applied n cs now.sessions).packets ≡ sent ++ (stages.all_applied n cs old.sessions).packets
   pub state : (stages.all_applied n cs now.sessions).state ≡ (stages.all_applied n cs old.sessions).state
   pub applied : now.sessions.applied ≡ before
   pub fresh : now.is_spent ≡ false
 
 pub none_yet : (n : nodes.Node) (cs : List gates.Connection) (old : server_sessions.ServerSessions) (sent : List Packet) (before : ℕ)
     → before ≡ old.sessions.applied → old.is_spent ≡ false → SoFar n cs old sent old sent [] before
-none_yet n cs old sent before is fresh = record { acts = refl; packets = refl; state = refl; applied = sym is; fresh = fresh }
+none_yet n cs old sent before is fresh = record { did = refl; sends = refl; state = refl; applied = sym is; fresh = fresh }
 
 pub next_place : (n : nodes.Node) (cs : List gates.Connection) (old : server_sessions.ServerSessions) (sent : List Packet)
     (now next : server_sessions.ServerSessions) (packets more : List Packet) (acts further : List (ℕ × Act)) (before : ℕ) (e : Entry)
@@ -66,16 +66,16 @@ next_place n cs old sent now next packets more acts further before e so less at 
     let done : further ≡ acts ++ act ∷ [] = did ∙ ap (λ (k : ℕ). acts ++ stages.act_at now.sessions k e ∷ []) here in
     let gave : more ≡ packets ++ gone = sends ∙ ap (λ (k : ℕ). packets ++ stages.sent_at n cs now.sessions k e) here in
     record {
-      acts =
+      did =
       ap (λ (xs : List (ℕ × Act)). xs ++ (stages.all_applied n cs next.sessions).acts) done
       ∙ (ap (λ (p : server_steps.Progress). (acts ++ act ∷ []) ++ p.acts) rest
       ∙ (append_assoc acts (act ∷ []) left.acts
-      ∙ (sym (ap (λ (p : server_steps.Progress). acts ++ p.acts) step) ∙ so.acts)));
-      packets =
+      ∙ (sym (ap (λ (p : server_steps.Progress). acts ++ p.acts) step) ∙ so.did)));
+      sends =
       ap (λ (ps : List Packet). ps ++ (stages.all_applied n cs next.sessions).packets) gave
       ∙ (ap (λ (p : server_steps.Progress). (packets ++ gone) ++ p.packets) rest
       ∙ (append_assoc packets gone left.packets
-      ∙ (sym (ap (λ (p : server_steps.Progress). packets ++ p.packets) step) ∙ so.packets)));
+      ∙ (sym (ap (λ (p : server_steps.Progress). packets ++ p.packets) step) ∙ so.sends)));
       state =
       ap (λ (p : server_steps.Progress). p.state) rest
       ∙ (sym (ap (λ (p : server_steps.Progress). p.state) step) ∙ so.state);
@@ -93,14 +93,20 @@ pub acts_are : (n : nodes.Node) (cs : List gates.Connection) (old : server_sessi
 acts_are n cs old sent now packets acts before so le =
     let all : stages.all_applied n cs now.sessions ≡ record { state = now.sessions; packets = []; acts = [] } =
     nothing_left n cs now.sessions (let same : now.sessions.applied ≡ before = so.applied in omega arith) in
-    sym (append-nil acts) ∙ (sym (ap (λ (p : server_steps.Progress). acts ++ p.acts) all) ∙ so.acts)
+    sym (append-nil acts) ∙ (sym (ap (λ (p : server_steps.Progress). acts ++ p.acts) all) ∙ so.did)
 
 pub packets_are : (n : nodes.Node) (cs : List gates.Connection) (old : server_sessions.ServerSessions) (sent : List Packet) (now : server_sessions.ServerSessions) (packets : List Packet) (acts : List (ℕ × Act)) (before : ℕ)
     → SoFar n cs old sent now packets acts before → n.commit ≤ before → packets ≡ sent ++ (stages.all_applied n cs old.sessions).packets
 packets_are n cs old sent now packets acts before so le =
     let all : stages.all_applied n cs now.sessions ≡ record { state = now.sessions; packets = []; acts = [] } =
     nothing_left n cs now.sessions (let same : now.sessions.applied ≡ before = so.applied in omega arith) in
-    sym (append-nil packets) ∙ (sym (ap (λ (p : server_steps.Progress). packets ++ p.packets) all) ∙ so.packets)
+    sym (append-nil packets) ∙ (sym (ap (λ (p : server_steps.Progress). packets ++ p.packets) all) ∙ so.sends)
+
+abbrev both : session_states.Sessions → Bool → server_sessions.ServerSessions
+both s spent = record { sessions = s; is_spent = spent }
+
+whole : (now : server_sessions.ServerSessions) (s : session_states.Sessions) → now.sessions ≡ s → now.is_spent ≡ false → now ≡ both s false
+whole now s is fresh = ap (λ (x : session_states.Sessions). both x now.is_spent) is ∙ ap (both s) fresh
 
 pub state_is : (n : nodes.Node) (cs : List gates.Connection) (old : server_sessions.ServerSessions) (sent : List Packet) (now : server_sessions.ServerSessions) (packets : List Packet) (acts : List (ℕ × Act)) (before : ℕ)
     → SoFar n cs old sent now packets acts before → n.commit ≤ before → now ≡ record { sessions = (stages.all_applied n cs old.sessions).state; is_spent = false }
@@ -109,6 +115,3 @@ state_is n cs old sent now packets acts before so le =
     nothing_left n cs now.sessions (let same : now.sessions.applied ≡ before = so.applied in omega arith) in
     let sessions : now.sessions ≡ (stages.all_applied n cs old.sessions).state = sym (ap (λ (p : server_steps.Progress). p.state) all) ∙ so.state in
     whole now (stages.all_applied n cs old.sessions).state sessions so.fresh
-  where
-    whole : (x : server_sessions.ServerSessions) (s : session_states.Sessions) → x.sessions ≡ s → x.is_spent ≡ false → x ≡ record { sessions = s; is_spent = false }
-    whole x s is fresh = cc
