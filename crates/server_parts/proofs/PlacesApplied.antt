@@ -1,5 +1,5 @@
 -- The places that are applied so far, and those that are left.
-use Rattle.std.proofs.Common.{◌≡◌, ℕ, zero, suc, ◌+◌, ◌<◌, ◌≤◌, ◌∙◌, refl, sym, ap, subst, arith, Bool, false, List, [], ◌∷◌, ◌++◌, append-nil, append_assoc, Option, Some, take, drop, slice_get}
+use Rattle.std.proofs.Common.{◌≡◌, ℕ, zero, suc, ◌+◌, ◌<◌, ◌≤◌, ◌∙◌, refl, sym, ap, subst, arith, Bool, false, List, [], ◌∷◌, ◌++◌, append-nil, append_assoc, Some, take, drop, slice_get}
 use Rattle.ax_types.specs.Places as lists
 use Rattle.ax_types.specs.declared.entries.Act.{Act}
 use Rattle.ax_types.specs.declared.entries.Entry.{Entry}
@@ -40,10 +40,6 @@ pub record SoFar (n : nodes.Node) (cs : List gates.Connection) (old : server_ses
   pub applied : now.sessions.applied ≡ before
   pub fresh : now.is_spent ≡ false
 
-pub none_yet : (n : nodes.Node) (cs : List gates.Connection) (old : server_sessions.ServerSessions) (sent : List Packet) (before : ℕ)
-    → before ≡ old.sessions.applied → old.is_spent ≡ false → SoFar n cs old sent old sent [] before
-none_yet n cs old sent before is fresh = record { did = refl; sends = refl; state = refl; applied = sym is; fresh = fresh }
-
 pub next_place : (n : nodes.Node) (cs : List gates.Connection) (old : server_sessions.ServerSessions) (sent : List Packet)
     (now next : server_sessions.ServerSessions) (packets more : List Packet) (acts further : List (ℕ × Act)) (before : ℕ) (e : Entry)
     → SoFar n cs old sent now packets acts before → before < n.commit → lists.at_place n.log (before + 1) ≡ Some e
@@ -67,18 +63,18 @@ next_place n cs old sent now next packets more acts further before e so less at 
     let gave : more ≡ packets ++ gone = sends ∙ ap (λ (k : ℕ). packets ++ stages.sent_at n cs now.sessions k e) here in
     record {
       did =
-      ap (λ (xs : List (ℕ × Act)). xs ++ (stages.all_applied n cs next.sessions).acts) done
-      ∙ (ap (λ (p : server_steps.Progress). (acts ++ act ∷ []) ++ p.acts) rest
-      ∙ (append_assoc acts (act ∷ []) left.acts
-      ∙ (sym (ap (λ (p : server_steps.Progress). acts ++ p.acts) step) ∙ so.did)));
+          ap (λ (xs : List (ℕ × Act)). xs ++ (stages.all_applied n cs next.sessions).acts) done
+          ∙ (ap (λ (p : server_steps.Progress). (acts ++ act ∷ []) ++ p.acts) rest
+          ∙ (append_assoc acts (act ∷ []) left.acts
+          ∙ (sym (ap (λ (p : server_steps.Progress). acts ++ p.acts) step) ∙ so.did)));
       sends =
-      ap (λ (ps : List Packet). ps ++ (stages.all_applied n cs next.sessions).packets) gave
-      ∙ (ap (λ (p : server_steps.Progress). (packets ++ gone) ++ p.packets) rest
-      ∙ (append_assoc packets gone left.packets
-      ∙ (sym (ap (λ (p : server_steps.Progress). packets ++ p.packets) step) ∙ so.sends)));
+          ap (λ (ps : List Packet). ps ++ (stages.all_applied n cs next.sessions).packets) gave
+          ∙ (ap (λ (p : server_steps.Progress). (packets ++ gone) ++ p.packets) rest
+          ∙ (append_assoc packets gone left.packets
+          ∙ (sym (ap (λ (p : server_steps.Progress). packets ++ p.packets) step) ∙ so.sends)));
       state =
-      ap (λ (p : server_steps.Progress). p.state) rest
-      ∙ (sym (ap (λ (p : server_steps.Progress). p.state) step) ∙ so.state);
+          ap (λ (p : server_steps.Progress). p.state) rest
+          ∙ (sym (ap (λ (p : server_steps.Progress). p.state) step) ∙ so.state);
       applied = ap (λ (s : server_sessions.ServerSessions). s.sessions.applied) after;
       fresh = ap (λ (s : server_sessions.ServerSessions). s.is_spent) after;
     }

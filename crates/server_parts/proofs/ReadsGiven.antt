@@ -1,5 +1,5 @@
 -- The readings without the queries of reads that are given.
-use Rattle.std.proofs.Common.{◌≡◌, ◌∙◌, sym, ap, refl, arith, ℕ, true, List, [], ◌∷◌, length}
+use Rattle.std.proofs.Common.{◌≡◌, ap, refl, arith, ℕ, true, List, [], ◌∷◌, length}
 use Rattle.std.specs.Bool.{◌==◌}
 use Rattle.std.proofs.lemmas.Bool.Decides.{nat_tests}
 use Rattle.spec_server.specs.Gates as gates

@@ -1,9 +1,8 @@
 -- What an input asks beside its part for the Raft node, and what a step makes of it once the Raft node has stepped.
-use Rattle.std.specs.Prelude.{ℕ, Option, Some, None, List, [], ◌∷◌, ◌++◌}
+use Rattle.std.specs.Prelude.{Option, Some, None, List, [], ◌∷◌, ◌++◌}
 use Rattle.std.specs.Option.{option_map}
 use Rattle.ax_types.specs.declared.ops.Level.{Level}
 use Rattle.ax_types.specs.declared.ops.Level.TheVariants as level
-use Rattle.ax_types.specs.declared.packets.Packet.{Packet}
 use Rattle.ax_types.specs.declared.raft.RaftInput.TheVariants as input
 use Rattle.ax_types.specs.declared.raft.Out.{Out}
 use Rattle.ax_types.specs.declared.sessions.Held.{Held}

@@ -1,5 +1,5 @@
 -- The stages of a step behind that of the Raft node, each of the server that the one before it left.
-use Rattle.std.specs.Prelude.{ℕ, suc, Option, Some, None, List, [], ◌∷◌, ◌++◌, map}
+use Rattle.std.specs.Prelude.{ℕ, Option, List, ◌++◌, map}
 use Rattle.ax_types.specs.declared.entries.Act.{Act}
 use Rattle.ax_types.specs.declared.entries.Entry.{Entry}
 use Rattle.ax_types.specs.declared.packets.Packet.{Packet}

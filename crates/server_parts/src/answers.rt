@@ -84,11 +84,7 @@ fn send_batch(
 {
     let (session, batch) = told;
     match connections.connection(session) {
-        Some(found) => packets.push(to_client(
-            raft,
-            found.client(),
-            batch_payload(session, batch),
-        )),
+        Some(found) => packets.push(to_client(raft, found.client(), batch_payload(session, batch))),
         None => Ok(()),
     }
 }

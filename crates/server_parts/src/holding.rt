@@ -65,6 +65,5 @@ pub fn hold_all(
     ensures { OnOk result (gate.new ≡ gates.with_all_held gate.old (asked.listed held ++ gates.ready_held readings.now reads.now)) }
 {
     hold_one(gate, held)?;
-    hold_ready(gate, readings, reads)?;
-    Ok(())
+    hold_ready(gate, readings, reads)
 }

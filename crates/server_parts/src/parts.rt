@@ -22,8 +22,11 @@ use std::marker::Model;
 /// The parts of a server. Contracts see the server of the definitions, and whether the session state is spent.
 #[derive(Drop)]
 pub struct Parts {
+    /// What the lists of a step are made with.
     pub alloc: Global,
+    /// The Raft node, which an input steps first.
     pub raft: RaftNode,
+    /// The session state, which is asked for the sessions that are due.
     pub state: SessState,
     gate: QueryGate,
     readings: Readings,
@@ -107,8 +110,7 @@ impl Parts {
         ensures after { OnOk result (self.new ≡ record { server = stages.taken_up self.old.server (option_map asked.hearing_of connect) read reached; is_spent = self.old.is_spent }) }
     {
         connect_session(&mut self.connections, connect)?;
-        let reach = self.readings.begin(&self.raft, read, reached)?;
-        Ok(reach)
+        self.readings.begin(&self.raft, read, reached)
     }
 
     /// The places newly committed are applied: what they send is put behind the packets, and the time and the act of each are
@@ -119,14 +121,13 @@ impl Parts {
         ensures packets { OnOk result (packets.new ≡ packets.old ++ (stages.progress_in self.old.server).packets) }
         ensures after { OnOk result (self.new ≡ record { server = stages.caught_up self.old.server; is_spent = false }) }
     {
-        let acts = apply_all(
+        apply_all(
             self.alloc,
             &self.raft,
             &self.connections,
             &mut self.state,
             packets,
-        )?;
-        Ok(acts)
+        )
     }
 
     /// A query that came and those of the reads that are ready wait at the gate.
@@ -150,8 +151,7 @@ impl Parts {
     {
         let through = self.gate.release(&self.state)?;
         answer_queries(&self.raft, &self.state, through, packets)?;
-        answer_hearing(&self.raft, &self.state, hearing, packets)?;
-        Ok(())
+        answer_hearing(&self.raft, &self.state, hearing, packets)
     }
 
     /// The term, where the node became its leader.
@@ -163,10 +163,7 @@ impl Parts {
 }
 
 /// A session is connected, where one is to be.
-fn connect_session(
-    connections: &mut Connections,
-    connect: Option<Hearing>,
-) -> Result<(), NoMemory>
+fn connect_session(connections: &mut Connections, connect: Option<Hearing>) -> Result<(), NoMemory>
     ensures { OnOk result (connections.new ≡ server_steps.with_connection connections.old (option_map asked.hearing_of connect)) }
 {
     match connect {

@@ -8,6 +8,7 @@ use ax_types::{ClientId, Held, Packet};
 pub struct Hearing {
     pub client: ClientId,
     pub session: u64,
+    /// The place of the last batch that the client has, 0 where it has none.
     pub heard: u64,
 }
 
@@ -15,10 +16,15 @@ pub struct Hearing {
 /// connection, an answer of batches.
 #[derive(Drop)]
 pub struct Asks {
+    /// A packet that goes on to the known leader.
     pub passed: Option<Packet>,
+    /// A sequential query, which waits at the gate.
     pub held: Option<Held>,
+    /// A linearizable query, whose read the Raft node may have taken.
     pub read: Option<Held>,
+    /// A session that is connected to this server from now on.
     pub connect: Option<Hearing>,
+    /// A session that is told its end, or its batches above what it has heard.
     pub hearing: Option<Hearing>,
 }
 

@@ -1,6 +1,6 @@
 -- One more place is applied, and after the last one nothing is left.
 use Rattle.std.proofs.Common.{arith}
-use Rattle.server_parts.proofs.PlacesApplied.{none_yet, next_place, acts_are, packets_are, state_is}
+use Rattle.server_parts.proofs.PlacesApplied.{next_place, acts_are, packets_are, state_is}
 use Rattle.server_parts.proofs.places.apply_all.Goals as goal
 
 pub places-preserved : goal.places-preserved

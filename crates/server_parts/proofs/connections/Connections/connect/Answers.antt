@@ -1,5 +1,5 @@
 -- The session has its connection at its place.
-use Rattle.std.proofs.Common.{◌≡◌, ℕ, ◌∙◌, sym, subst, true, false, List, slice_get, slice_set}
+use Rattle.std.proofs.Common.{◌≡◌, ◌∙◌, sym, subst, true, false, List, slice_get, slice_set}
 use Rattle.spec_server.specs.Gates as gates
 use Rattle.server_parts.specs.ConnectionOrder as order
 use Rattle.server_parts.proofs.ConnectionAt.{set_there, insert_there, connected_rise}

@@ -1,5 +1,5 @@
 -- The connection of a session stands at its place, or there is none.
-use Rattle.std.proofs.Common.{◌≡◌, ℕ, ◌∙◌, sym, subst, List, get_or}
+use Rattle.std.proofs.Common.{◌≡◌, ◌∙◌, sym, subst, List, get_or}
 use Rattle.spec_server.specs.Gates as gates
 use Rattle.server_parts.specs.ConnectionOrder as order
 use Rattle.server_parts.proofs.ConnectionAt.{found_there, none_there}

@@ -1,5 +1,5 @@
 -- What is not given stays.
-use Rattle.std.proofs.Common.{rules, ap, sym, ◌∙◌, List}
+use Rattle.std.proofs.Common.{rules, ap, ◌∙◌, List}
 use Rattle.std.specs.Prelude.{not, filter}
 use Rattle.std.proofs.lemmas.Fn.{filter_same}
 use Rattle.spec_server.specs.Gates as gates
