@@ -90,7 +90,7 @@ impl ServerNode {
         self.parts.raft.log()
     }
 
-    /// What the node keeps over a crash: its term, its vote and its log. It takes no memory, also of a node that is spent.
+    /// What the node keeps over a crash: its term, its vote and its log. It takes no memory.
     pub fn into_kept(self) -> Loaded
         ensures { result ≡ raft_nodes.kept_of self.server.raft }
     {
