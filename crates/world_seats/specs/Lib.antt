@@ -1,0 +1,2 @@
+pub mod SeatPlans
+pub mod SeatAnswers
