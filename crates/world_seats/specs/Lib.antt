@@ -1,2 +1,3 @@
 pub mod SeatPlans
 pub mod SeatAnswers
+pub mod Seated

@@ -1,12 +1,14 @@
-ghost use Rattle.std.specs.Prelude.{◌≡◌, ◌≤◌, ◌<◌, ◌^◌, true, false, length, map, IfOk, OnOk, OnErr};
+ghost use Rattle.std.specs.Prelude.{◌≡◌, ◌≤◌, ◌<◌, ◌^◌, suc, true, false, length, map, IfOk, OnOk, OnErr};
 ghost use Rattle.ax_types.specs.Places as lists;
 ghost use Rattle.ax_types.specs.declared.limits.TheConstants.{MAX_CLIENTS};
 ghost use Rattle.ax_types.specs.declared.steps.Step.TheVariants as step;
 ghost use Rattle.spec_raft.specs.Majority as majorities;
 ghost use Rattle.spec_world.specs.Worlds as worlds;
 ghost use Rattle.world_seats.specs.SeatPlans as plans;
+ghost use Rattle.world_seats.specs.Seated as seated;
 
 use crate::given::SeatStep;
+use crate::seat::Seat;
 use ax_types::{ClientId, ClientState, Level, Name, NoMemory, NodeId, Op, Payload, Query, WatchKind};
 use std::alloc::Global;
 use std::marker::Model;
@@ -22,18 +24,60 @@ pub struct Seats {
     is_spent: bool,
 }
 
+impl Model for Seats {
+    ghost use Rattle.std.specs.Prelude.{map};
+    ghost use Rattle.world_seats.specs.SeatPlans as plans;
+    ghost use Rattle.world_seats.specs.Seated as seated;
+
+    ghost Value = { plans.CountedSeats };
+
+    ghost view = { λ a. record { seats = map (λ s. s.watcher) a.seats.items; calls = a.calls; is_spent = a.is_spent } };
+
+    ghost invariant = { λ a. seated.AreSeated a.seats.items a.calls a.is_spent };
+}
+
+/// Clients that have no session yet and no watches, numbered from 1.
+fn new_seats(alloc: Global, clients: u8) -> Result<Vec<Seat>, NoMemory>
+    requires { clients ≤ MAX_CLIENTS }
+    ensures { IfOk result (λ seats. seats.items ≡ seated.new_seats clients) }
+{
+    let mut seats = Vec::with_capacity(alloc, clients as usize)?;
+    'clients: for count in 0..clients {
+        match ClientId::new(count + 1) {
+            Some(me) => seats.push(Seat::new(alloc, me))?,
+            None => unreachable!(),
+        }
+    }
+    Ok(seats)
+}
+
+/// Where a client's seat is.
+fn index_of(client: ClientId) -> usize
+    ensures { suc result ≡ client }
+{
+    client.number() as usize - 1
+}
+
 impl Seats {
     /// Clients that have no session yet and no watches, numbered from 1.
     pub fn open(alloc: Global, clients: u8) -> Result<Self, NoMemory>
         requires { clients ≤ MAX_CLIENTS }
         ensures { IfOk result (λ seats. seats ≡ record { seats = map worlds.new_watcher (majorities.cluster_of clients); calls = 0; is_spent = false }) }
     {
+        let seats = new_seats(alloc, clients)?;
+        Ok(Seats {
+            alloc,
+            seats,
+            calls: 0,
+            is_spent: false,
+        })
     }
 
     /// How many clients there are.
     pub fn count(&self) -> usize
         ensures { result ≡ length self.now.seats }
     {
+        self.seats.len()
     }
 
     /// The state of a client.
@@ -41,6 +85,7 @@ impl Seats {
         requires { client ≤ length self.now.seats }
         ensures { result ≡ worlds.state_in (lists.at_place self.now.seats client) }
     {
+        self.seats[index_of(client)].state()
     }
 
     /// A client opens a session at a node, or skips it.
@@ -52,6 +97,12 @@ impl Seats {
         ensures after { OnOk result (self.new ≡ plans.seats_after self.old (plans.plan_at self.old (step.Open client node))) }
         ensures err { OnErr result (self.new.is_spent ≡ true) }
     {
+        self.is_spent = true;
+        self.calls += 1;
+        let seat = &mut self.seats[index_of(client)];
+        let step = seat.open(self.alloc, client, node)?;
+        self.is_spent = false;
+        Ok(step)
     }
 
     /// A client goes on with another node.
@@ -63,6 +114,12 @@ impl Seats {
         ensures after { OnOk result (self.new ≡ plans.seats_after self.old (plans.plan_at self.old (step.Switch client node))) }
         ensures err { OnErr result (self.new.is_spent ≡ true) }
     {
+        self.is_spent = true;
+        self.calls += 1;
+        let seat = &mut self.seats[index_of(client)];
+        let step = seat.switch(self.alloc, client, node)?;
+        self.is_spent = false;
+        Ok(step)
     }
 
     /// A client sends again what may have been lost, or skips it.
@@ -74,6 +131,12 @@ impl Seats {
         ensures after { OnOk result (self.new ≡ plans.seats_after self.old (plans.plan_at self.old (step.Resend client))) }
         ensures err { OnErr result (self.new.is_spent ≡ true) }
     {
+        self.is_spent = true;
+        self.calls += 1;
+        let seat = &mut self.seats[index_of(client)];
+        let step = seat.resend(self.alloc, client)?;
+        self.is_spent = false;
+        Ok(step)
     }
 
     /// A client gives a sign of life, or skips it.
@@ -85,6 +148,12 @@ impl Seats {
         ensures after { OnOk result (self.new ≡ plans.seats_after self.old (plans.plan_at self.old (step.Keep client))) }
         ensures err { OnErr result (self.new.is_spent ≡ true) }
     {
+        self.is_spent = true;
+        self.calls += 1;
+        let seat = &mut self.seats[index_of(client)];
+        let step = seat.keep(self.alloc, client)?;
+        self.is_spent = false;
+        Ok(step)
     }
 
     /// A client closes its session, or skips it.
@@ -96,6 +165,12 @@ impl Seats {
         ensures after { OnOk result (self.new ≡ plans.seats_after self.old (plans.plan_at self.old (step.Close client))) }
         ensures err { OnErr result (self.new.is_spent ≡ true) }
     {
+        self.is_spent = true;
+        self.calls += 1;
+        let seat = &mut self.seats[index_of(client)];
+        let step = seat.close(self.alloc, client)?;
+        self.is_spent = false;
+        Ok(step)
     }
 
     /// A client has a watch from now on; one that it has is skipped.
@@ -107,6 +182,12 @@ impl Seats {
         ensures after { OnOk result (self.new ≡ plans.seats_after self.old (plans.plan_at self.old (step.Watch client kind))) }
         ensures err { OnErr result (self.new.is_spent ≡ true) }
     {
+        self.is_spent = true;
+        self.calls += 1;
+        let seat = &mut self.seats[index_of(client)];
+        let step = seat.watch(self.alloc, kind)?;
+        self.is_spent = false;
+        Ok(step)
     }
 
     /// A client calls a command, or skips it; where its session has ended, the call is unsent.
@@ -118,6 +199,12 @@ impl Seats {
         ensures after { OnOk result (self.new ≡ plans.seats_after self.old (plans.plan_at self.old (step.Call client name.now op.now))) }
         ensures err { OnErr result (self.new.is_spent ≡ true) }
     {
+        self.is_spent = true;
+        self.calls += 1;
+        let seat = &mut self.seats[index_of(client)];
+        let step = seat.call(self.alloc, client, name, op)?;
+        self.is_spent = false;
+        Ok(step)
     }
 
     /// A client calls a query, or skips it; where its session has ended, the call is unsent.
@@ -135,6 +222,12 @@ impl Seats {
         ensures after { OnOk result (self.new ≡ plans.seats_after self.old (plans.plan_at self.old (step.Query client level name.now query.now))) }
         ensures err { OnErr result (self.new.is_spent ≡ true) }
     {
+        self.is_spent = true;
+        self.calls += 1;
+        let seat = &mut self.seats[index_of(client)];
+        let step = seat.query(self.alloc, client, level, name, query)?;
+        self.is_spent = false;
+        Ok(step)
     }
 
     /// A payload from a node reaches a client, which takes or ignores it. Below each event stand the items of the watches that
@@ -153,5 +246,11 @@ impl Seats {
         ensures after { OnOk result (self.new ≡ plans.seats_after self.old (plans.receipt_at self.old client from payload.now)) }
         ensures err { OnErr result (self.new.is_spent ≡ true) }
     {
+        self.is_spent = true;
+        self.calls += 1;
+        let seat = &mut self.seats[index_of(client)];
+        let step = seat.receive(self.alloc, client, from, payload, filters)?;
+        self.is_spent = false;
+        Ok(step)
     }
 }

@@ -1,0 +1,5 @@
+pub mod Lifting
+mod Asking
+mod Sitting
+mod Opening
+mod Showing

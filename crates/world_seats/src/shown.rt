@@ -1,0 +1,116 @@
+ghost use Rattle.std.specs.Prelude.{◌≡◌, ◌++◌, ◌∷◌, flat_map, IfOk, OnOk};
+ghost use Rattle.ax_types.specs.declared.items.Item.TheVariants as item;
+ghost use Rattle.spec_claims.specs.Heard as heard;
+ghost use Rattle.spec_world.specs.Moves as moves;
+
+use ax_types::{ClientId, Duplicate, Event, Item, List, NoMemory, WatchKind};
+use std::alloc::Global;
+use watch_hooks::Filters;
+
+/// A batch of events that a session of a client heard.
+struct Told {
+    me: ClientId,
+    session: u64,
+    place: u64,
+}
+
+impl Told {
+    /// What a watch shows of an event that it holds.
+    fn item(&self, kind: WatchKind, event: &Event) -> Result<Item, NoMemory>
+        ensures { IfOk result (λ i. i ≡ item.Watched self.now.me kind self.now.session self.now.place event.now) }
+    {
+        Ok(Item::Watched {
+            client: self.me,
+            kind,
+            session: self.session,
+            place: self.place,
+            event: event.copy()?,
+        })
+    }
+}
+
+/// What one watch shows of a batch, after other items.
+fn watched_by(
+    told: &Told,
+    events: &[Event],
+    kind: WatchKind,
+    filters: &Filters,
+    below: &mut Vec<Item>,
+) -> Result<(), NoMemory>
+    ensures { OnOk result (below.new.items ≡ below.old.items ++ heard.watched_by told.now.me told.now.session told.now.place events.now kind) }
+{
+    'events: for event in events {
+        if filters.holds(kind, event) {
+            below.push(told.item(kind, event)?)?;
+        }
+    }
+    Ok(())
+}
+
+/// What the watches of a client show of a batch, in the order in which they were set, after other items.
+fn watched(
+    told: &Told,
+    events: &[Event],
+    watches: &[WatchKind],
+    filters: &Filters,
+    below: &mut Vec<Item>,
+) -> Result<(), NoMemory>
+    ensures { OnOk result (below.new.items ≡ below.old.items ++ flat_map (heard.watched_by told.now.me told.now.session told.now.place events.now) watches.now) }
+{
+    'kinds: for kind in watches {
+        watched_by(told, events, *kind, filters, below)?;
+    }
+    Ok(())
+}
+
+/// An item of a client, and what its watches show directly below it, after other items.
+fn push_shown(
+    me: ClientId,
+    item: Item,
+    watches: &[WatchKind],
+    filters: &Filters,
+    shown: &mut Vec<Item>,
+) -> Result<(), NoMemory>
+    ensures { OnOk result (shown.new.items ≡ shown.old.items ++ item ∷ moves.shown_below me watches.now item) }
+{
+    let mut below = Vec::new(*shown.allocator());
+    if let Item::Event {
+        session,
+        place,
+        events,
+        ..
+    } = &item
+    {
+        let told = Told {
+            me,
+            session: *session,
+            place: *place,
+        };
+        watched(&told, events.as_slice(), watches, filters, &mut below)?;
+    }
+    shown.push(item)?;
+    'below: for watched in below {
+        shown.push(watched)?;
+    }
+    Ok(())
+}
+
+/// A client's items, with what its watches show directly below each event.
+pub fn with_shown(
+    alloc: Global,
+    me: ClientId,
+    items: List<Item>,
+    watches: &[WatchKind],
+    filters: &Filters,
+) -> Result<List<Item>, NoMemory>
+    ensures { IfOk result (λ shown. shown ≡ moves.with_shown me watches.now items) }
+{
+    if watches.is_empty() {
+        return Ok(items);
+    }
+    let mut shown = Vec::with_capacity(alloc, items.len())?;
+    'items: for item in items.into_vec() {
+        push_shown(me, item, watches, filters, &mut shown)?;
+    }
+    Ok(List::from_vec(shown))
+}
