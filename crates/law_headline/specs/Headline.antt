@@ -9,7 +9,6 @@ use Rattle.ax_types.specs.declared.steps.KeptStep.{KeptStep}
 use Rattle.spec_claims.specs.Transcript as transcripts
 use Rattle.spec_claims.specs.Faithful as faithful
 use Rattle.spec_claims.specs.Handed as handed
-use Rattle.spec_report.specs.Report as reports
 use Rattle.spec_world.specs.Worlds as worlds
 use Rattle.spec_world.specs.Moves as moves
 use Rattle.spec_run.specs.Run as runs
@@ -64,27 +63,28 @@ ScriptsEnd = (s : Script) (rest : List runs.Work) (kept : List KeptStep) (w : wo
     → IsWorldRun s.nodes s.clients s.timeout kept w items → in_hand.IsInHand (world_before s) (works_in s) kept r rest → length kept ≤ runs.most_steps
     → (runs.next_of w rest ≡ None) ⊎ (length kept ≡ runs.most_steps) → IsScriptRun s kept w items (runs.end_at (runs.next_of w rest))
 
+-- how a report is written: as its text, or as JSON
+abbrev pub ReportForm : Type 0
+ReportForm = List Item → List (ℕ × Act) → RunEnd → List ℕ
+
 -- the text is the report of a script's run, which left its stores so
-pub record ReportsScript (s : Script) (contents : List Loaded) (text : List ℕ) (end : RunEnd) : Type 0 where
+pub record ReportsScript (form : ReportForm) (s : Script) (contents : List Loaded) (text : List ℕ) (end : RunEnd) : Type 0 where
   pub kept : List KeptStep
   pub world : worlds.World
   pub items : List Item
   pub run : IsScriptRun s kept world items end
   pub stores : kept_stores.AreContents world.hosts contents
-  pub text : text ≡ reports.report_text items world.history end
+  pub reported : text ≡ form items world.history end
 
--- the text is the report of these items and this history
-pub record TellsRun (items : List Item) (history : List (ℕ × Act)) (text : List ℕ) (end : RunEnd) : Type 0 where
-  pub text : text ≡ reports.report_text items history end
-
--- the headline: what a text tells is a transcript that is faithful to one history, and hands out once; and the stores keep that history
-pub record IsHeadline (timeout : ℕ) (contents : List Loaded) (text : List ℕ) (end : RunEnd) : Type 0 where
+-- the headline: what a text reports is faithful to one history, and hands out once; and the stores keep that history
+pub record IsHeadline (form : ReportForm) (timeout : ℕ) (contents : List Loaded) (text : List ℕ) (end : RunEnd) : Type 0 where
   pub shown : List transcripts.Shown
   pub history : List (ℕ × Act)
-  pub text : text ≡ reports.report_text (transcripts.transcript shown) history end
+  pub reported : text ≡ form (transcripts.transcript shown) history end
   pub faithful : faithful.IsFaithful timeout shown history
   pub handed : handed.IsHanded (transcripts.transcript shown) history
   pub stores : StoresStand timeout history contents
 
 abbrev pub ReportsStand : Type 0
-ReportsStand = (s : Script) (contents : List Loaded) (text : List ℕ) (end : RunEnd) → 1 ≤ s.nodes → ReportsScript s contents text end → IsHeadline s.timeout contents text end
+ReportsStand = (form : ReportForm) (s : Script) (contents : List Loaded) (text : List ℕ) (end : RunEnd)
+    → 1 ≤ s.nodes → ReportsScript form s contents text end → IsHeadline form s.timeout contents text end

@@ -8,6 +8,7 @@ use std::alloc::Global;
 use watch_hooks::Filters;
 
 /// A batch of events that a session of a client heard.
+#[derive(Drop)]
 struct Told {
     me: ClientId,
     session: u64,
