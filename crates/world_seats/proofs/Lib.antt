@@ -1,5 +1,4 @@
 pub mod Lifting
-mod Asking
 mod Sitting
 mod Opening
 mod Showing

@@ -1,4 +1,5 @@
 ghost use Rattle.std.specs.Prelude.{◌≡◌, ◌<◌, ◌^◌, false, None, IfOk, OnOk};
+ghost use Rattle.std.specs.List.{list_any};
 ghost use Rattle.ax_types.specs.declared.sessions.ClientState.TheVariants as state;
 ghost use Rattle.spec_client.specs.Clients as clients;
 ghost use Rattle.spec_client.specs.Receipts as receipts;
@@ -166,13 +167,20 @@ impl Seat {
         }
     }
 
+    /// Whether the client has a watch.
+    fn has_watch(&self, kind: WatchKind) -> bool
+        ensures { result ≡ list_any (plans.same_kind kind) self.now.watcher.watches }
+    {
+        self.watches.iter().any(|own| is_same(kind, *own))
+    }
+
     /// The client has a watch from now on; one that it has is skipped.
     pub fn watch(&mut self, alloc: Global, kind: WatchKind) -> Result<SeatStep, NoMemory>
         requires { self.old.is_spent ≡ false }
         ensures ok { IfOk result (λ s. s ≡ answers.watching_step self.old.watcher kind) }
         ensures after { OnOk result (answers.IsChanged self.old self.new (answers.watching self.old.watcher kind)) }
     {
-        if self.watches.iter().any(|own| is_same(kind, *own)) {
+        if self.has_watch(kind) {
             let reason = SkipReason::Watched;
             return shows_item(alloc, Item::Skip { reason });
         }

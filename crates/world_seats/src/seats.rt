@@ -36,6 +36,7 @@ impl Model for Seats {
     ghost invariant = { λ a. seated.AreSeated a.seats.items a.calls a.is_spent };
 }
 
+#[tactic(auto, using(crate::proofs::Opening::one_more))]
 /// Clients that have no session yet and no watches, numbered from 1.
 fn new_seats(alloc: Global, clients: u8) -> Result<Vec<Seat>, NoMemory>
     requires { clients ≤ MAX_CLIENTS }
@@ -59,6 +60,7 @@ fn index_of(client: ClientId) -> usize
 }
 
 impl Seats {
+    #[tactic(auto, using(crate::proofs::Opening::new_seated, crate::proofs::Opening::new_watchers))]
     /// Clients that have no session yet and no watches, numbered from 1.
     pub fn open(alloc: Global, clients: u8) -> Result<Self, NoMemory>
         requires { clients ≤ MAX_CLIENTS }

@@ -64,6 +64,36 @@ fn watched(
     Ok(())
 }
 
+/// What the watches of a client show directly below one of its items.
+fn shown_below(
+    alloc: Global,
+    me: ClientId,
+    item: &Item,
+    watches: &[WatchKind],
+    filters: &Filters,
+) -> Result<Vec<Item>, NoMemory>
+    ensures { IfOk result (λ below. below.items ≡ moves.shown_below me watches.now item.now) }
+{
+    let mut below = Vec::new(alloc);
+    match item {
+        Item::Event {
+            session,
+            place,
+            events,
+            ..
+        } => {
+            let told = Told {
+                me,
+                session: *session,
+                place: *place,
+            };
+            watched(&told, events.as_slice(), watches, filters, &mut below)?;
+            Ok(below)
+        }
+        _ => Ok(below),
+    }
+}
+
 /// An item of a client, and what its watches show directly below it, after other items.
 fn push_shown(
     me: ClientId,
@@ -74,21 +104,7 @@ fn push_shown(
 ) -> Result<(), NoMemory>
     ensures { OnOk result (shown.new.items ≡ shown.old.items ++ item ∷ moves.shown_below me watches.now item) }
 {
-    let mut below = Vec::new(*shown.allocator());
-    if let Item::Event {
-        session,
-        place,
-        events,
-        ..
-    } = &item
-    {
-        let told = Told {
-            me,
-            session: *session,
-            place: *place,
-        };
-        watched(&told, events.as_slice(), watches, filters, &mut below)?;
-    }
+    let below = shown_below(*shown.allocator(), me, &item, watches, filters)?;
     shown.push(item)?;
     'below: for watched in below {
         shown.push(watched)?;
@@ -96,6 +112,7 @@ fn push_shown(
     Ok(())
 }
 
+#[tactic(auto, using(crate::proofs::Showing::with_shown_none, crate::proofs::Showing::with_shown_more))]
 /// A client's items, with what its watches show directly below each event.
 pub fn with_shown(
     alloc: Global,
