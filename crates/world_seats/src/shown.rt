@@ -112,7 +112,7 @@ fn push_shown(
     Ok(())
 }
 
-#[tactic(auto, using(crate::proofs::Showing::with_shown_none, crate::proofs::Showing::with_shown_more))]
+#[tactic(auto, using(crate::proofs::Showing::with_shown_more))]
 /// A client's items, with what its watches show directly below each event.
 pub fn with_shown(
     alloc: Global,
