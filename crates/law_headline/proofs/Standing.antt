@@ -1,5 +1,5 @@
 -- One step more of a run, what stands by it, and the end of a script.
-use Rattle.std.proofs.Common.{◌≡◌, ℕ, ◌≤◌, List, [], ◌∷◌, ◌++◌, length, refl, ap, sym, ◌∙◌, subst, append-nil}
+use Rattle.std.proofs.Common.{◌≡◌, List, [], ◌∷◌, ◌++◌, length, refl, ap, sym, ◌∙◌, subst, append-nil}
 use Rattle.std.specs.Prelude.{◌⊎◌, Bool, true, false, ◌&&◌, None}
 use Rattle.std.proofs.lemmas.Grind.{flat_map-append}
 use Rattle.ax_types.specs.declared.items.Item.{Item}
@@ -33,20 +33,20 @@ items_more r k =
     ∙ ap (λ (ys : List Item). transcripts.transcript r.shown ++ ys) (append-nil (moves.moved r.world k).items)
 
 pub run_begins : laws.RunsBegin
-run_begins nodes clients timeout = record { fared = refl; world = refl; items = refl }
+run_begins nodes clients timeout = record { fared = refl; leads = refl; shows = refl }
 
 pub run_goes_on : laws.RunsGoOn
 run_goes_on nodes clients timeout kept w items k h may =
     let before : worlds.World = worlds.new_world nodes clients timeout in
     let joined : runs.ran before (kept ++ k ∷ []) ≡ then_ran (runs.ran before kept) (k ∷ []) = ran-append before kept (k ∷ []) in
     record {
-      fared = may_more before kept k h.fared (subst (λ (x : worlds.World). moves.may_fare x k ≡ true) (sym h.world) may);
-      world = ap (λ (r : runs.Ran). r.world) joined ∙ ap (λ (x : worlds.World). (moves.moved x k).world) h.world;
-      items =
+      fared = may_more before kept k h.fared (subst (λ (x : worlds.World). moves.may_fare x k ≡ true) (sym h.leads) may);
+      leads = ap (λ (r : runs.Ran). r.world) joined ∙ ap (λ (x : worlds.World). (moves.moved x k).world) h.leads;
+      shows =
           ap (λ (r : runs.Ran). transcripts.transcript r.shown) joined
           ∙ items_more (runs.ran before kept) k
-          ∙ ap (λ (xs : List Item). xs ++ (moves.moved (runs.ran before kept).world k).items) h.items
-          ∙ ap (λ (x : worlds.World). items ++ (moves.moved x k).items) h.world;
+          ∙ ap (λ (xs : List Item). xs ++ (moves.moved (runs.ran before kept).world k).items) h.shows
+          ∙ ap (λ (x : worlds.World). items ++ (moves.moved x k).items) h.leads;
     }
 
 pub run_stands : laws.RunsStand
@@ -54,23 +54,28 @@ run_stands nodes clients timeout kept w items h =
     let r : runs.Ran = runs.run nodes clients timeout kept in
     let true_run : faithful.IsFaithful timeout r.shown r.world.history = runs_are_faithful nodes clients timeout kept in
     record {
-      faithful = subst (λ (x : worlds.World). faithful.IsFaithful timeout r.shown x.history) h.world true_run;
+      faithful = subst (λ (x : worlds.World). faithful.IsFaithful timeout r.shown x.history) h.leads true_run;
       handed =
-          subst (λ (xs : List Item). handed.IsHanded xs w.history) h.items
-              (subst (λ (x : worlds.World). handed.IsHanded (transcripts.transcript r.shown) x.history) h.world (hand_once timeout r.shown r.world.history true_run));
+          subst (λ (xs : List Item). handed.IsHanded xs w.history) h.shows
+          (subst (λ (x : worlds.World). handed.IsHanded (transcripts.transcript r.shown) x.history) h.leads (hand_once timeout r.shown r.world.history true_run));
       stores = λ contents one held.
-          let same : kept_stores.AreContents r.world.hosts contents = subst (λ (x : worlds.World). kept_stores.AreContents x.hosts contents) (sym h.world) held in
+          let same : kept_stores.AreContents r.world.hosts contents = subst (λ (x : worlds.World). kept_stores.AreContents x.hosts contents) (sym h.leads) held in
           record {
-            kept = subst (λ (x : worlds.World). kept_stores.IsKept contents x.history) h.world (stores_keep_history nodes clients timeout kept contents one same);
-            left = subst (λ (x : worlds.World). kept_stores.IsLeft contents x.history timeout) h.world (newest_begins_history nodes clients timeout kept contents one same);
+            kept = subst (λ (x : worlds.World). kept_stores.IsKept contents x.history) h.leads (stores_keep_history nodes clients timeout kept contents one same);
+            left = subst (λ (x : worlds.World). kept_stores.IsLeft contents x.history timeout) h.leads (newest_begins_history nodes clients timeout kept contents one same);
           };
     }
 
+pub step_stands : laws.StepsStand
+step_stands kept w items k may nodes clients timeout h =
+    let more = run_goes_on nodes clients timeout kept w items k h may in
+    (more, run_stands nodes clients timeout (kept ++ k ∷ []) (moves.moved w k).world (items ++ (moves.moved w k).items) more)
+
 pub script_ends : laws.ScriptsEnd
 script_ends s rest kept w items r h hand within whole =
-    let same : r.world ≡ w = ap (λ (x : runs.Ran). x.world) (sym hand.so_far) ∙ h.world in
+    let same : r.world ≡ w = ap (λ (x : runs.Ran). x.world) (sym hand.so_far) ∙ h.leads in
     let done = unfolds (laws.world_before s) (laws.works_in s) rest kept r hand within (subst (λ (x : worlds.World). (runs.next_of x rest ≡ None) ⊎ (length kept ≡ runs.most_steps)) (sym same) whole) in
-    record { run = h; unfolds = done.0; end = ap runs.end_at (done.1 ∙ ap (λ (x : worlds.World). runs.next_of x rest) same) }
+    record { run = h; unfolds = done.0; ends = ap runs.end_at (done.1 ∙ ap (λ (x : worlds.World). runs.next_of x rest) same) }
 
 pub report_stands : laws.ReportsStand
 report_stands form s contents text end one h =
@@ -78,8 +83,8 @@ report_stands form s contents text end one h =
     record {
       shown = (runs.run s.nodes s.clients s.timeout h.kept).shown;
       history = h.world.history;
-      reported = h.reported ∙ ap (λ (xs : List Item). form xs h.world.history end) (sym h.run.run.items);
+      reported = h.reported ∙ ap (λ (xs : List Item). form xs h.world.history end) (sym h.run.run.shows);
       faithful = by.faithful;
-      handed = subst (λ (xs : List Item). handed.IsHanded xs h.world.history) (sym h.run.run.items) by.handed;
+      handed = subst (λ (xs : List Item). handed.IsHanded xs h.world.history) (sym h.run.run.shows) by.handed;
       stores = by.stores contents one h.stores;
     }

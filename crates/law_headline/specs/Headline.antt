@@ -1,5 +1,5 @@
 -- What a program that makes the steps of a run keeps, what stands by it, and what is said of the report of a script.
-use Rattle.std.specs.Prelude.{ℕ, ◌≡◌, ◌≤◌, ◌⊎◌, true, Option, None, List, [], ◌∷◌, ◌++◌, length}
+use Rattle.std.specs.Prelude.{ℕ, ◌≡◌, ◌≤◌, ◌⊎◌, true, None, List, [], ◌∷◌, ◌++◌, length}
 use Rattle.ax_types.specs.declared.entries.Act.{Act}
 use Rattle.ax_types.specs.declared.entries.Loaded.{Loaded}
 use Rattle.ax_types.specs.declared.items.Item.{Item}
@@ -18,8 +18,8 @@ use Rattle.law_run.specs.InHand as in_hand
 -- the kept steps lead from empty stores to this world and show these items, and the stores may have fared so in each
 pub record IsWorldRun (nodes clients timeout : ℕ) (kept : List KeptStep) (w : worlds.World) (items : List Item) : Type 0 where
   pub fared : runs.may_run (worlds.new_world nodes clients timeout) kept ≡ true
-  pub world : (runs.run nodes clients timeout kept).world ≡ w
-  pub items : transcripts.transcript (runs.run nodes clients timeout kept).shown ≡ items
+  pub leads : (runs.run nodes clients timeout kept).world ≡ w
+  pub shows : transcripts.transcript (runs.run nodes clients timeout kept).shown ≡ items
 
 abbrev pub RunsBegin : Type 0
 RunsBegin = (nodes clients timeout : ℕ) → IsWorldRun nodes clients timeout [] (worlds.new_world nodes clients timeout) []
@@ -44,6 +44,14 @@ abbrev pub RunsStand : Type 0
 RunsStand = (nodes clients timeout : ℕ) (kept : List KeptStep) (w : worlds.World) (items : List Item)
     → IsWorldRun nodes clients timeout kept w items → RunStandsBy nodes clients timeout kept w items
 
+-- where a run led to one world, it goes on to another, and that stands
+abbrev pub GoesOnTo : List KeptStep → worlds.World → List Item → List KeptStep → worlds.World → List Item → Type 0
+GoesOnTo kept w items later v more = (nodes clients timeout : ℕ) → IsWorldRun nodes clients timeout kept w items → IsWorldRun nodes clients timeout later v more × RunStandsBy nodes clients timeout later v more
+
+abbrev pub StepsStand : Type 0
+StepsStand = (kept : List KeptStep) (w : worlds.World) (items : List Item) (k : KeptStep)
+    → moves.may_fare w k ≡ true → GoesOnTo kept w items (kept ++ k ∷ []) (moves.moved w k).world (items ++ (moves.moved w k).items)
+
 -- the world before a script
 abbrev pub world_before : Script → worlds.World
 world_before s = worlds.new_world s.nodes s.clients s.timeout
@@ -56,7 +64,7 @@ works_in s = runs.works_of s.lines
 pub record IsScriptRun (s : Script) (kept : List KeptStep) (w : worlds.World) (items : List Item) (end : RunEnd) : Type 0 where
   pub run : IsWorldRun s.nodes s.clients s.timeout kept w items
   pub unfolds : runs.Unfolds (world_before s) (works_in s) kept
-  pub end : runs.end_at (runs.left_after (world_before s) (works_in s) kept) ≡ end
+  pub ends : runs.end_at (runs.left_after (world_before s) (works_in s) kept) ≡ end
 
 abbrev pub ScriptsEnd : Type 0
 ScriptsEnd = (s : Script) (rest : List runs.Work) (kept : List KeptStep) (w : worlds.World) (items : List Item) (r : runs.Ran)

@@ -9,9 +9,10 @@ pub fn runs_go_on()
     ensures go_on { laws.RunsGoOn }
 {}
 
-/// What a run shows is faithful to its history and hands out once, and the stores keep the history.
+/// What a run shows is faithful to its history and hands out once, and the stores keep the history; and so after each step more.
 pub fn runs_stand()
-    ensures { laws.RunsStand }
+    ensures run { laws.RunsStand }
+    ensures step { laws.StepsStand }
 {}
 
 /// A script in hand of which nothing is left, or of which as many steps were made as a run may have, is run to its end.

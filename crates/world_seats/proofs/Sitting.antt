@@ -66,13 +66,13 @@ pub asked : (seats : List worlds.Watcher) (i : ℕ) (w : worlds.Watcher) (refusa
     → IsPlanned seats (suc i) (plans.client_asks (seat_plans.world_of seats) (suc i) (slice_get seats i) refusal next) (answers.asked_step (suc i) w (refusal w.client) (next w.client)) (answers.asked_watcher w (refusal w.client) (next w.client))
 asked seats i w refusal next e =
     planned_at (λ o. IsPlanned seats (suc i) (plans.client_asks (seat_plans.world_of seats) (suc i) o refusal next) (answers.asked_step (suc i) w (refusal w.client) (next w.client)) (answers.asked_watcher w (refusal w.client) (next w.client)))
-        (slice_get seats i) w e (asked_if seats i w (refusal w.client) (next w.client) e)
+    (slice_get seats i) w e (asked_if seats i w (refusal w.client) (next w.client) e)
 
 called_if : (seats : List worlds.Watcher) (i : ℕ) (w : worlds.Watcher) (b : Bool) (next : clients.ClientStep) → slice_get seats i ≡ Some w
     → IsPlanned seats (suc i)
-        (cond b (plans.Shows (worlds.with_watcher (seat_plans.world_of seats) (suc i) (record w { client = clients.unsent w.client })) (answers.unsent_step w).items) (plans.client_asks_if (seat_plans.world_of seats) (suc i) w (clients.call_refusal w.client) next))
-        (cond b (answers.unsent_step w) (answers.asked_step (suc i) w (clients.call_refusal w.client) next))
-        (cond b (record w { client = clients.unsent w.client }) (answers.asked_watcher w (clients.call_refusal w.client) next))
+    (cond b (plans.Shows (worlds.with_watcher (seat_plans.world_of seats) (suc i) (record w { client = clients.unsent w.client })) (answers.unsent_step w).items) (plans.client_asks_if (seat_plans.world_of seats) (suc i) w (clients.call_refusal w.client) next))
+    (cond b (answers.unsent_step w) (answers.asked_step (suc i) w (clients.call_refusal w.client) next))
+    (cond b (record w { client = clients.unsent w.client }) (answers.asked_watcher w (clients.call_refusal w.client) next))
 called_if seats i w true next e = record { step = refl; after = λ calls. refl }
 called_if seats i w false next e = asked_if seats i w (clients.call_refusal w.client) next e
 
@@ -80,13 +80,13 @@ pub called : (seats : List worlds.Watcher) (i : ℕ) (w : worlds.Watcher) (next 
     → IsPlanned seats (suc i) (plans.calls_at (seat_plans.world_of seats) (suc i) (slice_get seats i) next) (answers.called_step (suc i) w (next w.client)) (answers.called_watcher w (next w.client))
 called seats i w next e =
     planned_at (λ o. IsPlanned seats (suc i) (plans.calls_at (seat_plans.world_of seats) (suc i) o next) (answers.called_step (suc i) w (next w.client)) (answers.called_watcher w (next w.client)))
-        (slice_get seats i) w e (called_if seats i w (clients.has_ended w.client.state) (next w.client) e)
+    (slice_get seats i) w e (called_if seats i w (clients.has_ended w.client.state) (next w.client) e)
 
 watching_if : (seats : List worlds.Watcher) (i : ℕ) (w : worlds.Watcher) (b : Bool) (kind : WatchKind) → slice_get seats i ≡ Some w
     → IsPlanned seats (suc i)
-        (cond b (plans.skips (seat_plans.world_of seats) reason.Watched) (plans.shows_nothing (worlds.with_watcher (seat_plans.world_of seats) (suc i) (record w { watches = w.watches ++ kind ∷ [] }))))
-        (cond b (answers.skipped reason.Watched) (record { items = []; packets = [] }))
-        (cond b w (record w { watches = w.watches ++ kind ∷ [] }))
+    (cond b (plans.skips (seat_plans.world_of seats) reason.Watched) (plans.shows_nothing (worlds.with_watcher (seat_plans.world_of seats) (suc i) (record w { watches = w.watches ++ kind ∷ [] }))))
+    (cond b (answers.skipped reason.Watched) (record { items = []; packets = [] }))
+    (cond b w (record w { watches = w.watches ++ kind ∷ [] }))
 watching_if seats i w true kind e = shown_plan seats i w reason.Watched e
 watching_if seats i w false kind e = record { step = refl; after = λ calls. refl }
 
@@ -94,13 +94,13 @@ pub watching : (seats : List worlds.Watcher) (i : ℕ) (w : worlds.Watcher) (kin
     → IsPlanned seats (suc i) (plans.watches_at (seat_plans.world_of seats) (suc i) kind (slice_get seats i)) (answers.watching_step w kind) (answers.watching w kind)
 watching seats i w kind e =
     planned_at (λ o. IsPlanned seats (suc i) (plans.watches_at (seat_plans.world_of seats) (suc i) kind o) (answers.watching_step w kind) (answers.watching w kind))
-        (slice_get seats i) w e (watching_if seats i w (list_any (plans.same_kind kind) w.watches) kind e)
+    (slice_get seats i) w e (watching_if seats i w (list_any (plans.same_kind kind) w.watches) kind e)
 
 pub received : (seats : List worlds.Watcher) (i k : ℕ) (w : worlds.Watcher) (p : Payload) → slice_get seats i ≡ Some w
     → IsPlanned seats (suc i) (plans.receives_from (seat_plans.world_of seats) (suc i) p (end.Node k) (slice_get seats i)) (answers.asked_step (suc i) w None (receipts.receives w.client k p)) (answers.asked_watcher w None (receipts.receives w.client k p))
 received seats i k w p e =
     planned_at (λ o. IsPlanned seats (suc i) (plans.receives_from (seat_plans.world_of seats) (suc i) p (end.Node k) o) (answers.asked_step (suc i) w None (receipts.receives w.client k p)) (answers.asked_watcher w None (receipts.receives w.client k p)))
-        (slice_get seats i) w e (record { step = refl; after = λ calls. refl })
+    (slice_get seats i) w e (record { step = refl; after = λ calls. refl })
 
 pub asked_at : (seats : List worlds.Watcher) (i c : ℕ) (w : worlds.Watcher) (refusal : clients.Client → Option SkipReason) (next : clients.Client → clients.ClientStep) → suc i ≡ c → slice_get seats i ≡ Some w
     → IsPlanned seats c (plans.client_asks (seat_plans.world_of seats) c (lists.at_place seats c) refusal next) (answers.asked_step c w (refusal w.client) (next w.client)) (answers.asked_watcher w (refusal w.client) (next w.client))
@@ -166,7 +166,7 @@ pub after_step : (xs : List answers.CountedWatcher) (i c calls : ℕ) (is_spent 
     → seen (set xs i y) (calls + 1) false ≡ seat_plans.seats_after now p
 after_step xs i c calls is_spent now x y p s new view whole same planned changed =
     let here : IsPlanned (watchers xs) (suc i) p s new =
-        subst (λ k. IsPlanned (watchers xs) k p s new) (sym same) (subst (λ (n : seat_plans.CountedSeats). IsPlanned n.seats c p s new) (sym view) planned) in
+    subst (λ k. IsPlanned (watchers xs) k p s new) (sym same) (subst (λ (n : seat_plans.CountedSeats). IsPlanned n.seats c p s new) (sym view) planned) in
     after_here xs i calls is_spent y p s new (ap (λ (n : seat_plans.CountedSeats). n.is_spent) view ∙ whole) changed.watcher here
     ∙ ap (λ (n : seat_plans.CountedSeats). seat_plans.seats_after n p) view
 
@@ -191,4 +191,4 @@ sat_still xs i c calls is_spent now x y new view whole room same known read h ch
     let few : calls < 2 ^ 32 = omega (arith, room, ap (λ (n : seat_plans.CountedSeats). n.calls) view) in
     let more : suc calls ≡ calls + 1 = omega arith in
     subst (λ n. seated.AreSeated (set xs i y) n false) more
-        (sat_down xs i calls x y new false (subst (seated.AreSeated xs calls) unspent h) (found xs i c calls is_spent now x view same known read) few changed)
+    (sat_down xs i calls x y new false (subst (seated.AreSeated xs calls) unspent h) (found xs i c calls is_spent now x view same known read) few changed)

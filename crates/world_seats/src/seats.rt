@@ -9,7 +9,9 @@ ghost use Rattle.world_seats.specs.Seated as seated;
 
 use crate::given::SeatStep;
 use crate::seat::Seat;
-use ax_types::{ClientId, ClientState, Level, Name, NoMemory, NodeId, Op, Payload, Query, WatchKind};
+use ax_types::{
+    ClientId, ClientState, Level, Name, NoMemory, NodeId, Op, Payload, Query, WatchKind,
+};
 use std::alloc::Global;
 use std::marker::Model;
 use watch_hooks::Filters;
