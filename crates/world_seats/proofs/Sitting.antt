@@ -48,7 +48,7 @@ pub record IsPlanned (seats : List worlds.Watcher) (c : ℕ) (p : plans.Plan) (s
   pub after : (calls : ℕ) → seat_plans.seats_after (record { seats = seats; calls = calls; is_spent = false }) p ≡ record { seats = positions.change_place (λ old. new) seats c; calls = suc calls; is_spent = false }
 
 shown_plan : (seats : List worlds.Watcher) (i : ℕ) (w : worlds.Watcher) (r : SkipReason) → slice_get seats i ≡ Some w
-    → IsPlanned seats (suc i) (plans.skips (seat_plans.world_of seats) r) (answers.skipped r) w
+    → IsPlanned seats (suc i) (plans.skips (seat_plans.world_of seats) r) (answers.skip_step r) w
 shown_plan seats i w r e = record {
   step = refl;
   after = λ calls. ap (λ (ss : List worlds.Watcher). let x : seat_plans.CountedSeats = record { seats = ss; calls = suc calls; is_spent = false } in x) (sym (change_same seats i w e));
@@ -85,7 +85,7 @@ called seats i w next e =
 watching_if : (seats : List worlds.Watcher) (i : ℕ) (w : worlds.Watcher) (b : Bool) (kind : WatchKind) → slice_get seats i ≡ Some w
     → IsPlanned seats (suc i)
     (cond b (plans.skips (seat_plans.world_of seats) reason.Watched) (plans.shows_nothing (worlds.with_watcher (seat_plans.world_of seats) (suc i) (record w { watches = w.watches ++ kind ∷ [] }))))
-    (cond b (answers.skipped reason.Watched) (record { items = []; packets = [] }))
+    (cond b (answers.skip_step reason.Watched) (record { items = []; packets = [] }))
     (cond b w (record w { watches = w.watches ++ kind ∷ [] }))
 watching_if seats i w true kind e = shown_plan seats i w reason.Watched e
 watching_if seats i w false kind e = record { step = refl; after = λ calls. refl }

@@ -30,13 +30,13 @@ skip_reason refused.WindowFull = Some reason.WindowFull
 skip_reason (refused.Busy unanswered) = Some (reason.Busy unanswered)
 skip_reason refused.NoMemory = None
 
-abbrev pub skipped : SkipReason → SeatStep
-skipped r = record { items = item.Skip r ∷ []; packets = [] }
+abbrev pub skip_step : SkipReason → SeatStep
+skip_step r = record { items = item.Skip r ∷ []; packets = [] }
 
 -- what a client's answer gives
-abbrev pub Answers : ℕ → Result ClientOut ClientRefused → SeatStep → Type 0
-Answers c (Ok out) s = s ≡ record { items = out.items; packets = map (moves.from_client c) out.sends }
-Answers c (Err refusal) s = option_map skipped (skip_reason refusal) ≡ Some s
+abbrev pub GivesStep : ℕ → Result ClientOut ClientRefused → SeatStep → Type 0
+GivesStep c (Ok out) s = s ≡ record { items = out.items; packets = map (moves.from_client c) out.sends }
+GivesStep c (Err refusal) s = option_map skip_step (skip_reason refusal) ≡ Some s
 
 -- what a client sends, and its items
 abbrev pub sent_out : ℕ → List Item → ClientOut → SeatStep
@@ -44,7 +44,7 @@ sent_out c items out = record { items = items; packets = map (moves.from_client 
 
 -- what a client gives that is asked, and the client after it
 abbrev pub asked_step : ℕ → worlds.Watcher → Option SkipReason → clients.ClientStep → SeatStep
-asked_step c s (Some r) next = skipped r
+asked_step c s (Some r) next = skip_step r
 asked_step c s None next = sent_out c (moves.with_shown c s.watches next.out.items) next.out
 
 abbrev pub asked_watcher : worlds.Watcher → Option SkipReason → clients.ClientStep → worlds.Watcher
@@ -63,7 +63,7 @@ called_watcher s next = if clients.has_ended s.client.state then record s { clie
 
 -- and one that gets a watch
 abbrev pub watching_step : worlds.Watcher → WatchKind → SeatStep
-watching_step s kind = if list_any (plans.same_kind kind) s.watches then skipped reason.Watched else record { items = []; packets = [] }
+watching_step s kind = if list_any (plans.same_kind kind) s.watches then skip_step reason.Watched else record { items = []; packets = [] }
 
 abbrev pub watching : worlds.Watcher → WatchKind → worlds.Watcher
 watching s kind = if list_any (plans.same_kind kind) s.watches then s else record s { watches = s.watches ++ kind ∷ [] }

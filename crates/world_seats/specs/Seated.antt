@@ -15,8 +15,8 @@ pub record AreSeated (seats : List answers.CountedWatcher) (calls : ℕ) (is_spe
   pub few : calls ≤ 2 ^ 32
 
 -- a client that has no session yet and no watches, and so many of them
-abbrev pub new_seat : ℕ → answers.CountedWatcher
-new_seat c = record { watcher = worlds.new_watcher c; calls = 0; is_spent = false }
+abbrev pub first_seat : ℕ → answers.CountedWatcher
+first_seat c = record { watcher = worlds.new_watcher c; calls = 0; is_spent = false }
 
-abbrev pub new_seats : ℕ → List answers.CountedWatcher
-new_seats n = map new_seat (majorities.cluster_of n)
+abbrev pub first_seats : ℕ → List answers.CountedWatcher
+first_seats n = map first_seat (majorities.cluster_of n)

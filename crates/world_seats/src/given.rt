@@ -31,7 +31,7 @@ pub fn shows_item(alloc: Global, item: Item) -> Result<SeatStep, NoMemory>
 
 /// A skip, where it is not memory that a client wants.
 fn skips(alloc: Global, refused: ClientRefused) -> Result<SeatStep, NoMemory>
-    ensures { IfOk result (λ s. option_map answers.skipped (answers.skip_reason refused) ≡ Some s) }
+    ensures { IfOk result (λ s. option_map answers.skip_step (answers.skip_reason refused) ≡ Some s) }
 {
     let reason = match refused {
         ClientRefused::SessionOpen => SkipReason::SessionOpen,
@@ -68,7 +68,7 @@ pub fn answered(
     me: ClientId,
     asked: Result<ClientOut, ClientRefused>,
 ) -> Result<SeatStep, NoMemory>
-    ensures { IfOk result (λ s. answers.Answers me asked s) }
+    ensures { IfOk result (λ s. answers.GivesStep me asked s) }
 {
     match asked {
         Ok(out) => Ok(SeatStep {

@@ -40,9 +40,9 @@ impl Model for Seats {
 
 #[tactic(auto, using(crate::proofs::Opening::one_more))]
 /// Clients that have no session yet and no watches, numbered from 1.
-fn new_seats(alloc: Global, clients: u8) -> Result<Vec<Seat>, NoMemory>
+fn first_seats(alloc: Global, clients: u8) -> Result<Vec<Seat>, NoMemory>
     requires { clients ≤ MAX_CLIENTS }
-    ensures { IfOk result (λ seats. seats.items ≡ seated.new_seats clients) }
+    ensures { IfOk result (λ seats. seats.items ≡ seated.first_seats clients) }
 {
     let mut seats = Vec::with_capacity(alloc, clients as usize)?;
     'clients: for count in 0..clients {
@@ -68,7 +68,7 @@ impl Seats {
         requires { clients ≤ MAX_CLIENTS }
         ensures { IfOk result (λ seats. seats ≡ record { seats = map worlds.new_watcher (majorities.cluster_of clients); calls = 0; is_spent = false }) }
     {
-        let seats = new_seats(alloc, clients)?;
+        let seats = first_seats(alloc, clients)?;
         Ok(Seats {
             alloc,
             seats,

@@ -9,13 +9,13 @@ use watch_hooks::Filters;
 
 /// A batch of events that a session of a client heard.
 #[derive(Drop)]
-struct Told {
+struct WatchedBatch {
     me: ClientId,
     session: u64,
     place: u64,
 }
 
-impl Told {
+impl WatchedBatch {
     /// What a watch shows of an event that it holds.
     fn item(&self, kind: WatchKind, event: &Event) -> Result<Item, NoMemory>
         ensures { IfOk result (λ i. i ≡ item.Watched self.now.me kind self.now.session self.now.place event.now) }
@@ -32,17 +32,17 @@ impl Told {
 
 /// What one watch shows of a batch, after other items.
 fn watched_by(
-    told: &Told,
+    batch: &WatchedBatch,
     events: &[Event],
     kind: WatchKind,
     filters: &Filters,
     below: &mut Vec<Item>,
 ) -> Result<(), NoMemory>
-    ensures { OnOk result (below.new.items ≡ below.old.items ++ heard.watched_by told.now.me told.now.session told.now.place events.now kind) }
+    ensures { OnOk result (below.new.items ≡ below.old.items ++ heard.watched_by batch.now.me batch.now.session batch.now.place events.now kind) }
 {
     'events: for event in events {
         if filters.holds(kind, event) {
-            below.push(told.item(kind, event)?)?;
+            below.push(batch.item(kind, event)?)?;
         }
     }
     Ok(())
@@ -50,16 +50,16 @@ fn watched_by(
 
 /// What the watches of a client show of a batch, in the order in which they were set, after other items.
 fn watched(
-    told: &Told,
+    batch: &WatchedBatch,
     events: &[Event],
     watches: &[WatchKind],
     filters: &Filters,
     below: &mut Vec<Item>,
 ) -> Result<(), NoMemory>
-    ensures { OnOk result (below.new.items ≡ below.old.items ++ flat_map (heard.watched_by told.now.me told.now.session told.now.place events.now) watches.now) }
+    ensures { OnOk result (below.new.items ≡ below.old.items ++ flat_map (heard.watched_by batch.now.me batch.now.session batch.now.place events.now) watches.now) }
 {
     'kinds: for kind in watches {
-        watched_by(told, events, *kind, filters, below)?;
+        watched_by(batch, events, *kind, filters, below)?;
     }
     Ok(())
 }
@@ -82,12 +82,12 @@ fn shown_below(
             events,
             ..
         } => {
-            let told = Told {
+            let batch = WatchedBatch {
                 me,
                 session: *session,
                 place: *place,
             };
-            watched(&told, events.as_slice(), watches, filters, &mut below)?;
+            watched(&batch, events.as_slice(), watches, filters, &mut below)?;
             Ok(below)
         }
         _ => Ok(below),

@@ -1,5 +1,5 @@
 use Rattle.law_headline.proofs.runs_stand.Goals as goal
-use Rattle.law_headline.proofs.Standing.{run_stands, step_stands}
+use Rattle.law_headline.proofs.HeadlineRuns.{run_stands, step_stands}
 
 pub returns-clause-run : goal.returns-clause-run
 returns-clause-run c = run_stands
