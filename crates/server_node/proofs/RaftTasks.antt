@@ -1,5 +1,5 @@
 -- A step whose task is an input of the Raft node alone.
-use Rattle.std.proofs.Common.{◌≡◌, IfOk, subst}
+use Rattle.std.proofs.Common.{◌≡◌, IfOk, OnOk, false, subst}
 use Rattle.std.specs.Prelude.{Result}
 use Rattle.ax_types.specs.declared.lists.NoMemory.{NoMemory}
 use Rattle.ax_types.specs.declared.raft.Out.{Out}
@@ -22,3 +22,14 @@ raft_task_out {a} {b} same n o t i r after out asks h =
     (subst (λ (x : nodes.Node). IfOk r (λ out. out ≡ server_steps.out_at (asked.stage_behind (record a.server { raft = x }) (node_steps.out a.server.raft i) servers.no_task) servers.no_task)) after
     (subst (λ (x : Out). IfOk r (λ out. out ≡ server_steps.out_at (asked.stage_behind (record a.server { raft = n }) x servers.no_task) servers.no_task)) out
     (subst (λ (x : servers.Task). IfOk r (λ out. out ≡ server_steps.out_at (asked.stage_behind (record a.server { raft = n }) o x) x)) asks h)))
+
+-- and leaves what is defined for it
+pub raft_task_after : {a b : states.ServerState} → a ≡ b → (n : nodes.Node) (o : Out) (t : servers.Task) (i : RaftInput) (r : Result ServerOut NoMemory) (left : states.ServerState)
+    → n ≡ node_steps.stepped a.server.raft i → o ≡ node_steps.out a.server.raft i → t ≡ servers.no_task
+    → OnOk r (left ≡ record { server = server_steps.server_at (asked.stage_behind (record a.server { raft = n }) o t); is_spent = false })
+    → OnOk r (left ≡ record { server = asked.after_for b.server (servers.raft_task i); is_spent = false })
+raft_task_after {a} {b} same n o t i r left after out asks h =
+    subst (λ (x : states.ServerState). OnOk r (left ≡ record { server = asked.after_for x.server (servers.raft_task i); is_spent = false })) same
+    (subst (λ (x : nodes.Node). OnOk r (left ≡ record { server = server_steps.server_at (asked.stage_behind (record a.server { raft = x }) (node_steps.out a.server.raft i) servers.no_task); is_spent = false })) after
+    (subst (λ (x : Out). OnOk r (left ≡ record { server = server_steps.server_at (asked.stage_behind (record a.server { raft = n }) x servers.no_task); is_spent = false })) out
+    (subst (λ (x : servers.Task). OnOk r (left ≡ record { server = server_steps.server_at (asked.stage_behind (record a.server { raft = n }) o x); is_spent = false })) asks h)))

@@ -60,7 +60,7 @@ pub fn receive(parts: &mut Parts, clock: u64, packet: &Packet) -> Result<ServerO
     if needs_leader(&packet.payload) && !parts.raft.is_leader() {
         return pass_on(parts, packet);
     }
-    take(parts, clock, &packet.from, &packet.payload)
+    carry_out(parts, clock, &packet.from, &packet.payload)
 }
 
 /// Whether only a leader carries a payload out: what goes through the log (Ongaro 2014, 6.2), and a linearizable query.
@@ -78,7 +78,12 @@ fn needs_leader(payload: &Payload) -> bool
 }
 
 /// The step for a packet that this node carries out.
-fn take(parts: &mut Parts, clock: u64, from: &End, payload: &Payload) -> Result<ServerOut, NoMemory>
+fn carry_out(
+    parts: &mut Parts,
+    clock: u64,
+    from: &End,
+    payload: &Payload,
+) -> Result<ServerOut, NoMemory>
     requires spent { parts.old.is_spent ≡ false }
     requires comes { conditions.ComesFrom parts.old.server from.now payload.now }
     requires leads { conditions.needs_leader payload.now ≡ true → servers.leads parts.old.server ≡ true }
