@@ -13,13 +13,8 @@ use store_journal::NodeStore;
 #[derive(Clone, Copy)]
 pub enum UpgradeRefused {
     /// The bytes of this node's store are no journal, from the byte at this offset on.
-    Bad {
-        node: u8,
-        at: u64,
-    },
-    Fault {
-        node: u8,
-    },
+    Bad { node: u8, at: u64 },
+    Fault { node: u8 },
     NoMemory,
 }
 
