@@ -15,7 +15,7 @@ fn write_upgrade_line(text: &mut String, node: u8, found: Upgraded) -> Result<()
 }
 
 /// The lines of the stores of nodes 1, 2, 3 and so on, in which this was found.
-pub fn upgrade_lines(alloc: Global, found: &[Upgraded]) -> Result<String, NoMemory>
+pub fn found_text(alloc: Global, found: &[Upgraded]) -> Result<String, NoMemory>
     requires within { length found.now ≤ MAX_NODES }
     ensures { IfOk result (λ t. string_bytes t ≡ upgraded.found_text found.now) }
 {

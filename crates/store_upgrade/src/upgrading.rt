@@ -4,7 +4,7 @@ ghost use Rattle.ax_types.specs.declared.limits.TheConstants.{MAX_NODES};
 ghost use Rattle.store_upgrade.specs.UpgradedStores as upgraded;
 ghost use Rattle.store_upgrade.specs.declared.upgrading.UpgradeRefused.TheVariants as refused;
 
-use crate::lines::upgrade_lines;
+use crate::lines::found_text;
 use ax_types::{List, NoMemory, StoreError, Upgraded};
 use std::alloc::Global;
 use store_journal::NodeStore;
@@ -75,5 +75,5 @@ pub fn upgrade_stores<S: NodeStore>(
     ensures size { length stores.new.items ≡ length stores.old.items }
 {
     let found = upgrade_each(alloc, stores)?;
-    Ok(upgrade_lines(alloc, found.as_slice())?)
+    Ok(found_text(alloc, found.as_slice())?)
 }
