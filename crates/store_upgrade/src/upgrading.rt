@@ -4,7 +4,7 @@ ghost use Rattle.ax_types.specs.declared.limits.TheConstants.{MAX_NODES};
 ghost use Rattle.store_upgrade.specs.UpgradedStores as upgraded;
 ghost use Rattle.store_upgrade.specs.declared.upgrading.UpgradeRefused.TheVariants as refused;
 
-use crate::findings::found_text;
+use crate::found_lines::found_text;
 use ax_types::{List, NoMemory, StoreError, Upgraded};
 use std::alloc::Global;
 use store_journal::NodeStore;

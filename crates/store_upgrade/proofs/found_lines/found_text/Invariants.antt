@@ -1,7 +1,7 @@
 use Rattle.std.proofs.Common.{◌≡◌, ◌+◌, ◌++◌, drop, string_bytes}
 use Rattle.spec_report.specs.Items as report_items
 use Rattle.store_upgrade.specs.UpgradedStores as upgraded
-use Rattle.store_upgrade.proofs.findings.found_text.Given as goal
+use Rattle.store_upgrade.proofs.found_lines.found_text.Given as goal
 
 -- the node that comes next; what is written, and the lines that are left
 abbrev pub invariant-stores : goal.invariant-stores
