@@ -1,0 +1,14 @@
+use Rattle.std.proofs.Common.{◌≡◌, ℕ, ◌+◌, ◌<◌, ◌≤◌, ◌∙◌, suc, Bool, true, false, Some, List, length, set, refl, arith, sym, ap, subst}
+use Rattle.std.proofs.lemmas.Option.{slice_get_read}
+use Rattle.ax_types.specs.Places as lists
+use Rattle.net_bag.specs.Reasons as reasons
+use Rattle.spec_world.specs.Worlds as worlds
+use Rattle.world_hosts.specs.HostPlans as plans
+use Rattle.world_hosts.specs.HostViews as views
+use Rattle.world_hosts.proofs.HostLists as places
+use Rattle.world_hosts.proofs.hosts.Hosts.count.Goals as goal
+
+pub returns-clause-count : goal.returns-clause-count
+returns-clause-count c =
+    let hs = c.self.inside.hosts.items in
+    omega (arith, c.len.ensures, places.length_hosts (length hs) c.self.inside.timeout 1 hs, ap (λ (s : plans.OpenHosts). length s.hosts) c.self.view_is)
