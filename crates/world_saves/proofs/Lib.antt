@@ -1,0 +1,2 @@
+pub mod ChainCases
+pub mod Remains

@@ -1,0 +1,2 @@
+pub mod SaveChain
+pub mod Replacing
