@@ -1,0 +1,9 @@
+pub mod Places
+pub mod Lifetimes
+pub mod Seating
+pub mod Notes
+pub mod Readings
+pub mod Stepping
+pub mod CallerSteps
+pub mod PumpSteps
+pub mod SeatSteps

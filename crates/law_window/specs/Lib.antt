@@ -1,0 +1,5 @@
+pub mod WindowKnown
+pub mod WindowLives
+pub mod WindowRule
+pub mod WindowPlays
+pub mod WindowSeats
