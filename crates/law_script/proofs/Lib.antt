@@ -5,3 +5,4 @@ pub mod Operations
 pub mod Queries
 pub mod Steps
 pub mod Digits
+pub mod Within

@@ -1,2 +1,3 @@
 pub mod StepForms
 pub mod StepsReadBack
+pub mod ScriptsWithin

@@ -3,4 +3,4 @@
 
 mod log;
 
-pub use log::{Log, copies};
+pub use log::{Log, copies, first_conflict};

@@ -49,6 +49,13 @@ impl Log {
         List::from_vec(self.entries)
     }
 
+    /// The entries, from the first to the last.
+    pub fn as_slice(&self) -> &[Entry]
+        ensures { result.now ≡ self.now }
+    {
+        self.entries.as_slice()
+    }
+
     /// The place of the last entry, 0 where there is none.
     pub fn last(&self) -> u64
         ensures last { result ≡ length self.now }
@@ -137,13 +144,7 @@ impl Log {
         requires { prev ≤ length self.now }
         ensures { result ≡ logs.first_conflict self.now prev sent.now }
     {
-        let own = &self.entries.as_slice()[prev as usize..];
-        'pairs: for i in 0..own.len().min(sent.len()) {
-            if own[i].term != sent[i].term {
-                return Some(prev + i as u64 + 1);
-            }
-        }
-        None
+        first_conflict(self.entries.as_slice(), prev, sent)
     }
 
     /// Cuts the entry at a place and all after it, where a place is given, and then adds entries. The log is unchanged
@@ -231,6 +232,21 @@ impl Duplicate for Log {
         let entries = copies(*self.entries.allocator(), self.entries.as_slice())?;
         Ok(Log { entries })
     }
+}
+
+/// The place of the first of these entries of a log whose term is not that of the one sent for it, where those sent are for
+/// the places after `prev`.
+pub fn first_conflict(entries: &[Entry], prev: u64, sent: &[Entry]) -> Option<u64>
+    requires { prev ≤ length entries.now }
+    ensures { result ≡ logs.first_conflict entries.now prev sent.now }
+{
+    let own = &entries[prev as usize..];
+    'pairs: for i in 0..own.len().min(sent.len()) {
+        if own[i].term != sent[i].term {
+            return Some(prev + i as u64 + 1);
+        }
+    }
+    None
 }
 
 /// The entries without so many of the first. They are copied only where there are some to leave out.

@@ -110,6 +110,20 @@ impl RaftNode {
         self.ballot.term()
     }
 
+    /// The node that has the vote of the term.
+    pub fn vote(&self) -> Option<NodeId>
+        ensures { result ≡ self.now.ballot.vote }
+    {
+        self.ballot.vote()
+    }
+
+    /// The log.
+    pub fn log(&self) -> &[Entry]
+        ensures { result.now ≡ self.now.log }
+    {
+        self.log.as_slice()
+    }
+
     /// Whether the node leads.
     pub fn is_leader(&self) -> bool
         ensures { result ≡ raft_nodes.is_leader self.now }

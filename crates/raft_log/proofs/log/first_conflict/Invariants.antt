@@ -1,6 +1,6 @@
 use Rattle.std.proofs.Common.{◌≡◌, ◌+◌, drop}
 use Rattle.spec_raft.specs.Log as logs
-use Rattle.raft_log.proofs.log.Log.first_conflict.Given as goal
+use Rattle.raft_log.proofs.log.first_conflict.Given as goal
 
 -- what is left of both lists has the same first conflict
 abbrev pub invariant-pairs : goal.invariant-pairs

@@ -1,0 +1,4 @@
+pub mod ConnectionOrder
+pub mod ServerStates
+pub mod StepAsks
+pub mod StepStages

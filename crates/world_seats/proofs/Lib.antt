@@ -1,0 +1,4 @@
+pub mod Lifting
+mod Sitting
+mod Opening
+mod Showing

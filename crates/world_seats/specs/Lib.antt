@@ -1,0 +1,3 @@
+pub mod SeatPlans
+pub mod SeatAnswers
+pub mod Seated
