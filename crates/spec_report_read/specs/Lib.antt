@@ -1,0 +1,3 @@
+pub mod ReplyWords
+pub mod ItemWords
+pub mod ReportForm

@@ -1,0 +1,2 @@
+//! How a report is read from its JSON form. Definitions alone.
+#![tactic(auto)]
