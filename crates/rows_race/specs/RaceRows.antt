@@ -76,5 +76,5 @@ many_fine = replicate 80 outcome.Fine
 abbrev pub dead_steps : List KeptStep
 dead_steps = fine_steps (step.Crash 1 ∷ step.Call 1 (codes "c") (op.Long (long_op.Add (pos 5))) ∷ replicate 64 (step.Resend 1))
 
-abbrev pub left_open : List Item
-left_open = item.Unanswered 2 1 ∷ []
+abbrev pub dead_outcomes : List Item
+dead_outcomes = item.Unanswered 2 1 ∷ []

@@ -23,5 +23,5 @@ pub fn one_caller_race()
 /// Where the only node crashes in round 1 the pump stops after 64 rounds that gave no outcome, and the call is left open.
 pub fn dead_rounds_row()
     ensures steps { races.raced race_rows.crash_plan (race_rows.set_up_with race_rows.dead_takes) race_rows.many_fine ≡ race_rows.dead_steps }
-    ensures told { races.unanswered_items 2 (transcripts.transcript (runs.ran race_rows.set_up race_rows.dead_steps).shown) ≡ race_rows.left_open }
+    ensures told { races.unanswered_items 2 (transcripts.transcript (runs.ran race_rows.set_up race_rows.dead_steps).shown) ≡ race_rows.dead_outcomes }
 {}

@@ -1,0 +1,15 @@
+pub mod Places
+pub mod Lifetimes
+pub mod Seating
+pub mod Notes
+pub mod Readings
+pub mod Stepping
+pub mod CallerSteps
+pub mod PumpSteps
+pub mod SeatSteps
+pub mod Agreeing
+pub mod Opening
+pub mod Drawing
+pub mod Pumping
+pub mod Required
+pub mod Closing

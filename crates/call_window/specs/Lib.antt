@@ -1,0 +1,10 @@
+pub mod WindowKnown
+pub mod WindowLives
+pub mod WindowRule
+pub mod WindowPlays
+pub mod WindowSeats
+pub mod WindowRefused
+pub mod WindowPolls
+pub mod WindowPumping
+pub mod WindowOpening
+pub mod WindowClosing

@@ -1,0 +1,8 @@
+use ax_types::{Outcome, WindowCall};
+
+/// What lies in the slot of a place.
+#[derive(Drop)]
+pub enum Parcel {
+    Call(WindowCall),
+    Outcome(Outcome),
+}
