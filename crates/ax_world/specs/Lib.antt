@@ -1,0 +1,3 @@
+pub mod OpenWorlds
+pub mod Scenes
+pub mod Standing

@@ -1,0 +1,9 @@
+pub mod AmongHosts
+pub mod Falling
+pub mod HostLists
+pub mod LeaderAmong
+pub mod LoadedHosts
+pub mod Loading
+pub mod MatchingStores
+pub mod ServedHosts
+pub mod StepKeeps
