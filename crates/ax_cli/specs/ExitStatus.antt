@@ -29,7 +29,6 @@ why_word why.LineTooLong = codes "LineTooLong"
 why_word why.TooLong = codes "TooLong"
 why_word why.Grammar = codes "Grammar"
 why_word why.NoSession = codes "NoSession"
-why_word why.NotBuilt = codes "NotBuilt"
 
 abbrev pub report_why_word : ReportWhy → List ℕ
 report_why_word report_why.TooLong = codes "TooLong"

@@ -34,7 +34,6 @@ fn why_name(why: Why) -> &'static str
         Why::TooLong => "TooLong",
         Why::Grammar => "Grammar",
         Why::NoSession => "NoSession",
-        Why::NotBuilt => "NotBuilt",
     }
 }
 

@@ -8,8 +8,6 @@ pub enum Why {
     TooLong,
     Grammar,
     NoSession,
-    /// A form of the grammar that the program does not run yet.
-    NotBuilt,
 }
 
 /// Why an input was no report.

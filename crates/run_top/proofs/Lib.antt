@@ -1,4 +1,2 @@
-pub mod FaithfulLemmas
-pub mod FormLemmas
-pub mod ReportLemmas
 pub mod SourceLemmas
+pub mod HeadlineLemmas

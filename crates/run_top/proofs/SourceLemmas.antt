@@ -14,12 +14,14 @@ use Rattle.std.proofs.lemmas.List.{take-append-drop, append_cancel_left}
 use Rattle.spec_text.specs.Words as text_words
 use Rattle.spec_script.specs.Scripts as scripts
 use Rattle.spec_script.proofs.LineLemmas.{newline, is_empty-split}
-use Rattle.spec_single.specs.Form as narrow_form
 use Rattle.run_top.specs.Answers as answers
 use Rattle.run_top.specs.Judging as judging
 use Rattle.run_top.specs.declared.refusals.Refused.{Refused}
 use Rattle.run_top.specs.declared.refusals.Refused.TheVariants as refused
 use Rattle.run_top.specs.SourceRests as source_rests
+use Rattle.run_top.specs.Statuses as statuses
+use Rattle.store_opening.specs.declared.opening.OpenRefused.{OpenRefused}
+use Rattle.store_opening.specs.declared.opening.OpenRefused.TheVariants as open_refused
 
 abbrev pub Refuses : {A E : Type 0} → Result A E → Type 0
 Refuses (Ok x) = ⊥
@@ -82,15 +84,15 @@ too_long race true bytes h = past_split race (slice_split newline (scripts.judge
 too_long race false bytes h = cc
 
 -- what is taken is no longer than the longest script
-not_long : (bytes : List ℕ) (cs : List narrow_form.Call) (long : Bool) (r : Result Script scripts.Refusal) → (long ≡ true → Refuses r) → answers.judged_as bytes r ≡ Ok cs → long ≡ false
-not_long bytes cs false r refused taken = refl
-not_long bytes cs true (Ok s) refused taken = absurd (refused refl)
-not_long bytes cs true (Err e) refused taken = cc
+not_long : (bytes : List ℕ) (s : Script) (long : Bool) (r : Result Script scripts.Refusal) → (long ≡ true → Refuses r) → r ≡ Ok s → long ≡ false
+not_long bytes s false r refused taken = refl
+not_long bytes s true (Ok t) refused taken = absurd (refused refl)
+not_long bytes s true (Err e) refused taken = cc
 
-short_script : (bytes : List ℕ) (cs : List narrow_form.Call) → answers.judged bytes ≡ Ok cs → length bytes ≤ 1048576
+short_script : (bytes : List ℕ) (s : Script) → answers.judged bytes ≡ Ok s → length bytes ≤ 1048576
 unfolding scripts.is_too_long scripts.longest_script
-short_script bytes cs taken =
-    let short : nat_lt 1048576 (length bytes) ≡ false = not_long bytes cs (scripts.is_too_long bytes) (scripts.read_script_of false bytes) (too_long false (scripts.is_too_long bytes) bytes) taken in
+short_script bytes s taken =
+    let short : nat_lt 1048576 (length bytes) ≡ false = not_long bytes s (scripts.is_too_long bytes) (scripts.read_script_of false bytes) (too_long false (scripts.is_too_long bytes) bytes) taken in
     grind (arith, nat_tests)
 
 nothing_left : (content : List ℕ) → length content ≤ 1048577 → source_rests.rest_of content ≡ []
@@ -125,26 +127,41 @@ read_out None bytes first short = tt
 read_out (Some content) bytes first short = all_read bytes content first short
 
 -- nothing is left of a source whose script was taken
-pub taken_leaves : (before now : Option (List ℕ)) (bytes : List ℕ) (cs : List narrow_form.Call) → ax_io_content.ReadsFirst before now 1048577 bytes → answers.judged bytes ≡ Ok cs
+pub taken_leaves : (before now : Option (List ℕ)) (bytes : List ℕ) (s : Script) → ax_io_content.ReadsFirst before now 1048577 bytes → answers.judged bytes ≡ Ok s
     → (now ≡ source_rests.script_rest before) × source_rests.IsReadOut now
-taken_leaves before now bytes cs read taken =
+taken_leaves before now bytes s read taken =
     let left = reads_rest before now bytes read in
-    (left, subst source_rests.IsReadOut (sym left) (read_out before bytes read.first (short_script bytes cs taken)))
+    (left, subst source_rests.IsReadOut (sym left) (read_out before bytes read.first (short_script bytes s taken)))
 
 -- where memory was wanted behind the reading, its bytes are the front that is lost
 pub read_loses : (before now : Option (List ℕ)) (bytes : List ℕ) → ax_io_content.ReadsFirst before now 1048577 bytes → ax_io_content.LosesFront before now
 read_loses before now bytes read = record { lost = bytes; moved = read.moved }
 
 -- what a script that is refused leaves
-refused_leaves : (A : Type 0) (before now : Option (List ℕ)) (bytes : List ℕ) (meant : Result (List narrow_form.Call) scripts.Refusal) (e : Refused)
+refused_leaves : (A : Type 0) (before now : Option (List ℕ)) (bytes : List ℕ) (meant : Result (Script) scripts.Refusal) (e : Refused)
     → ax_io_content.ReadsFirst before now 1048577 bytes → judging.Judges meant (Err e) → source_rests.LeavesInput {A = A} before now (Err e)
 refused_leaves A before now bytes meant refused.Usage read h = absurd h
 refused_leaves A before now bytes meant (refused.Script line why) read h = reads_rest before now bytes read
 refused_leaves A before now bytes meant refused.ReadFault read h = absurd h
+refused_leaves A before now bytes meant (refused.StoreNotEmpty node) read h = absurd h
+refused_leaves A before now bytes meant (refused.StoreFault node) read h = absurd h
 refused_leaves A before now bytes meant refused.NoMemory read h = read_loses before now bytes read
 
-pub refused_leaves_as : {A : Type 0} (before now : Option (List ℕ)) (bytes : List ℕ) (meant : Result (List narrow_form.Call) scripts.Refusal) (e : Refused) (r : Result A Refused)
+pub refused_leaves_as : {A : Type 0} (before now : Option (List ℕ)) (bytes : List ℕ) (meant : Result (Script) scripts.Refusal) (e : Refused) (r : Result A Refused)
     → ax_io_content.ReadsFirst before now 1048577 bytes → judging.Judges meant (Err e) → IsErrAnd r (λ x. x ≡ e) → source_rests.LeavesInput before now r
 refused_leaves_as before now bytes meant e (Ok x) read h is = absurd is
 refused_leaves_as {A} before now bytes meant e (Err x) read h is =
     subst (λ (y : Refused). source_rests.LeavesInput {A = A} before now (Err y)) (sym is) (refused_leaves A before now bytes meant e read h)
+
+-- a script was taken, and its stores were not opened, or memory was wanting
+opening_leaves : (A : Type 0) (before now : Option (List ℕ)) (bytes : List ℕ) (s : Script) (e : OpenRefused)
+    → ax_io_content.ReadsFirst before now 1048577 bytes → answers.judged bytes ≡ Ok s → source_rests.LeavesInput {A = A} before now (Err (statuses.of_opening e))
+opening_leaves A before now bytes s (open_refused.NotEmpty node) read taken = taken_leaves before now bytes s read taken
+opening_leaves A before now bytes s (open_refused.Fault node) read taken = taken_leaves before now bytes s read taken
+opening_leaves A before now bytes s open_refused.NoMemory read taken = read_loses before now bytes read
+
+pub opening_leaves_as : {A : Type 0} (before now : Option (List ℕ)) (bytes : List ℕ) (s : Script) (e : OpenRefused) (r : Result A Refused)
+    → ax_io_content.ReadsFirst before now 1048577 bytes → answers.judged bytes ≡ Ok s → IsErrAnd r (λ x. x ≡ statuses.of_opening e) → source_rests.LeavesInput before now r
+opening_leaves_as before now bytes s e (Ok x) read taken is = absurd is
+opening_leaves_as {A} before now bytes s e (Err x) read taken is =
+    subst (λ (y : Refused). source_rests.LeavesInput {A = A} before now (Err y)) (sym is) (opening_leaves A before now bytes s e read taken)

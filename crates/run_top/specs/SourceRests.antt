@@ -18,19 +18,27 @@ script_rest (Some content) = Some (rest_of content)
 abbrev pub IsReadOut : Option (List ℕ) → Type 0
 IsReadOut now = IfSome now (λ content. content ≡ [])
 
+abbrev pub IsAllRead : Option (List ℕ) → Option (List ℕ) → Type 0
+IsAllRead before now = (now ≡ script_rest before) × IsReadOut now
+
 -- what is left by a report or its refusal: of a script that is taken nothing, of one that is refused what stands behind its bytes, and all where
 -- the words are refused; a reading that was given up, or want of memory, loses a front
 abbrev pub LeavesInput : {A : Type 0} → Option (List ℕ) → Option (List ℕ) → Result A Refused → Type 0
-LeavesInput before now (Ok report) = (now ≡ script_rest before) × IsReadOut now
+LeavesInput before now (Ok report) = IsAllRead before now
 LeavesInput before now (Err refused.Usage) = now ≡ before
 LeavesInput before now (Err (refused.Script line why)) = now ≡ script_rest before
 LeavesInput before now (Err refused.ReadFault) = ax_io_content.LosesFront before now
+LeavesInput before now (Err (refused.StoreNotEmpty node)) = IsAllRead before now
+LeavesInput before now (Err (refused.StoreFault node)) = IsAllRead before now
 LeavesInput before now (Err refused.NoMemory) = ax_io_content.LosesFront before now
 
 -- the same, of an answer of the program
 abbrev pub LeavesSource : Option (List ℕ) → Option (List ℕ) → Status → Type 0
-LeavesSource before now status.Done = (now ≡ script_rest before) × IsReadOut now
-LeavesSource before now status.WriteFault = (now ≡ script_rest before) × IsReadOut now
+LeavesSource before now status.Done = IsAllRead before now
+LeavesSource before now (status.StepLimit line) = IsAllRead before now
+LeavesSource before now status.WriteFault = IsAllRead before now
+LeavesSource before now (status.StoreNotEmpty node) = IsAllRead before now
+LeavesSource before now (status.StoreFault node) = IsAllRead before now
 LeavesSource before now status.Usage = now ≡ before
 LeavesSource before now (status.Script line why) = now ≡ script_rest before
 LeavesSource before now status.ReadFault = ax_io_content.LosesFront before now

@@ -3,8 +3,9 @@ ghost use Rattle.run_top.specs.declared.refusals.Refused.TheVariants as refused;
 ghost use Rattle.run_top.specs.Statuses as spec;
 
 use ax_io::ReadError;
-use ax_types::{NoMemory, Status, Why};
+use ax_types::{NoMemory, RunEnd, Status, Why};
 use command_words::WordsRefused;
+use store_opening::OpenRefused;
 
 /// Why nothing is written.
 #[derive(Clone, Copy)]
@@ -12,6 +13,8 @@ pub enum Refused {
     Usage,
     Script { line: u64, why: Why },
     ReadFault,
+    StoreNotEmpty { node: u8 },
+    StoreFault { node: u8 },
     NoMemory,
 }
 
@@ -24,8 +27,20 @@ impl Refused {
             Refused::Usage => Status::Usage,
             Refused::Script { line, why } => Status::Script { line, why },
             Refused::ReadFault => Status::ReadFault,
+            Refused::StoreNotEmpty { node } => Status::StoreNotEmpty { node },
+            Refused::StoreFault { node } => Status::StoreFault { node },
             Refused::NoMemory => Status::NoMemory,
         }
+    }
+}
+
+/// The status of a run that ended so.
+pub fn ended(end: RunEnd) -> Status
+    ensures { result ≡ spec.of_end end }
+{
+    match end {
+        RunEnd::Done => Status::Done,
+        RunEnd::StepLimit { line } => Status::StepLimit { line },
     }
 }
 
@@ -55,6 +70,18 @@ impl From<ReadError> for Refused {
         match error {
             ReadError::Failed => Refused::ReadFault,
             ReadError::NoMemory => Refused::NoMemory,
+        }
+    }
+}
+
+impl From<OpenRefused> for Refused {
+    ghost from_gives = { λ error e. e ≡ spec.of_opening error };
+
+    fn from(error: OpenRefused) -> Refused {
+        match error {
+            OpenRefused::NotEmpty { node } => Refused::StoreNotEmpty { node },
+            OpenRefused::Fault { node } => Refused::StoreFault { node },
+            OpenRefused::NoMemory => Refused::NoMemory,
         }
     }
 }

@@ -1,0 +1,5 @@
+pub mod Placed
+pub mod Doing
+pub mod Lifted
+pub mod Delivered
+pub mod Stepped

@@ -1,0 +1,2 @@
+pub mod OpenWorlds
+pub mod Scenes

@@ -1,0 +1,5 @@
+pub mod HostPlans
+pub mod HostSteps
+pub mod HostViews
+pub mod InConflict
+pub mod StoresMatch
