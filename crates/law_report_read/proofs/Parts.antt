@@ -74,9 +74,16 @@ client-read c h = number_within-read 1 16 c (lit< tt) h
 no_dot : (x : ℕ) → nat_lt 46 x ≡ true → not (x == 46) ≡ true
 no_dot x h = grind (arith, nat_tests)
 
+one_more : (n : ℕ) → 1 + n ≡ suc n
+one_more n = omega arith
+
+one_behind : (n : ℕ) → suc n + 1 ≡ suc (n + 1)
+one_behind n = omega arith
+
 before_dot : (xs ys : List ℕ) → above 46 xs ≡ true → position_or_len (λ b. b == 46) (xs ++ (46 ∷ ys)) ≡ length xs
 before_dot [] ys h = refl
-before_dot (x ∷ xs) ys h = rw (no_dot x (and_first (nat_lt 46 x) (above 46 xs) h)) (ap suc (before_dot xs ys (and_second (nat_lt 46 x) (above 46 xs) h)))
+before_dot (x ∷ xs) ys h = rw (no_dot x (and_first (nat_lt 46 x) (above 46 xs) h))
+    (ap (λ n. 1 + n) (before_dot xs ys (and_second (nat_lt 46 x) (above 46 xs) h)) ∙ one_more (length xs))
 
 take_front : (xs ys : List ℕ) → take (length xs) (xs ++ ys) ≡ xs
 take_front [] ys = refl
@@ -84,7 +91,7 @@ take_front (x ∷ xs) ys = ap (λ t. x ∷ t) (take_front xs ys)
 
 drop_front : (xs : List ℕ) (y : ℕ) (ys : List ℕ) → drop (length xs + 1) (xs ++ (y ∷ ys)) ≡ ys
 drop_front [] y ys = refl
-drop_front (x ∷ xs) y ys = drop_front xs y ys
+drop_front (x ∷ xs) y ys = ap (λ n. drop n (x ∷ (xs ++ (y ∷ ys)))) (one_behind (length xs)) ∙ drop_front xs y ys
 
 is_within : (xs ys : List ℕ) → nat_lt (length xs) (length (xs ++ (46 ∷ ys))) ≡ true
 is_within xs ys = let e = length-append xs (46 ∷ ys) in grind (arith, nat_tests)

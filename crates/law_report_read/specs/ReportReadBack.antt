@@ -1,5 +1,5 @@
 -- A report is read back from its JSON form.
-use Rattle.std.specs.Prelude.{ℕ, ◌≡◌, ◌≤◌, ◌<◌, ◌-◌, ◌^◌, ⊤, ⊥, false, IsUtf8, List, length, Option, Some, None, Ok}
+use Rattle.std.specs.Prelude.{ℕ, ◌≡◌, ◌≤◌, ◌<◌, ◌-◌, ◌^◌, ⊤, false, IsUtf8, List, length, Option, Some, None, Ok}
 use Rattle.std.specs.List.{AllByRecursion}
 use Rattle.ax_types.specs.declared.ops.Level.{Level}
 use Rattle.ax_types.specs.declared.ops.Level.TheVariants.{Seq, Lin}
