@@ -1,1 +1,4 @@
+pub mod Lists
 pub mod Signs
+pub mod Turns
+pub mod OutcomeWalk

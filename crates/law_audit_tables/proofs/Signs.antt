@@ -14,29 +14,7 @@ use Rattle.law_told.proofs.Growth.{live_grown}
 use Rattle.law_told.proofs.Named.{live_now, live_end, opened_within}
 use Rattle.law_audit_tables.specs.Signs as signs
 use Rattle.law_audit_tables.specs.TablesFound as laws
-
--- ---- lists
-
-at_past : {X : Type 0} (xs : List X) (p : ℕ) → length xs < p → lists.at_place xs p ≡ None
-at_past xs zero l = absurd (omega arith)
-at_past [] (suc k) l = refl
-at_past (x ∷ xs) (suc zero) l = absurd (omega arith)
-at_past (x ∷ xs) (suc (suc k)) l = at_past xs (suc k) (omega arith)
-
-get_set : {X : Type 0} (xs : List X) (k : ℕ) (v : X) → k < length xs → slice_get (set xs k v) k ≡ Some v
-get_set [] k v l = absurd (omega arith)
-get_set (x ∷ xs) zero v l = refl
-get_set (x ∷ xs) (suc k) v l = get_set xs k v (omega arith)
-
-get_other : {X : Type 0} (xs : List X) (k j : ℕ) (v : X) → nat_eq j k ≡ false → slice_get (set xs k v) j ≡ slice_get xs j
-get_other [] k j v e = refl
-get_other (x ∷ xs) zero zero v e = absurd (cc)
-get_other (x ∷ xs) zero (suc j) v e = refl
-get_other (x ∷ xs) (suc k) zero v e = refl
-get_other (x ∷ xs) (suc k) (suc j) v e = get_other xs k j v e
-
-longer : {X : Type 0} (xs : List X) (x : X) → length (xs ++ x ∷ []) ≡ suc (length xs)
-longer xs x = let e = length-append xs (x ∷ []) in omega arith
+use Rattle.law_audit_tables.proofs.Lists.{at_past, get_set, get_other, longer}
 
 -- ---- tests
 

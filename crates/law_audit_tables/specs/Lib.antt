@@ -1,2 +1,4 @@
 pub mod Signs
+pub mod Turns
+pub mod OutcomeWalk
 pub mod TablesFound

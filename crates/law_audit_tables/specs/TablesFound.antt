@@ -1,8 +1,21 @@
 -- One pass with tables finds what the conditions of the audit say.
-use Rattle.std.specs.Prelude.{ℕ, ◌≡◌, []}
+use Rattle.std.specs.Prelude.{ℕ, ◌≡◌, List, []}
+use Rattle.ax_types.specs.Places as lists
+use Rattle.ax_types.specs.declared.items.Item.{Item}
 use Rattle.spec_book.specs.History as histories
 use Rattle.spec_audit.specs.HistoryCondition as history_condition
+use Rattle.spec_audit.specs.ItemConditions as item_conditions
+use Rattle.spec_audit.specs.SessionConditions as session_conditions
 use Rattle.law_audit_tables.specs.Signs as signs
+use Rattle.law_audit_tables.specs.Turns as turns
+use Rattle.law_audit_tables.specs.OutcomeWalk as outcome_walk
 
 abbrev pub SignsFindLawful : Type 0
 SignsFindLawful = (timeout : ℕ) (h : histories.History) → signs.are_allowed timeout [] 0 h ≡ history_condition.is_lawful timeout h
+
+abbrev pub TurnsAreGiven : Type 0
+TurnsAreGiven = (h : histories.History) (p : ℕ) → lists.at_place (turns.turns h) p ≡ histories.turn_of h p
+
+abbrev pub OutcomesAreWalked : Type 0
+OutcomesAreWalked = (s : ℕ) (items : List Item)
+    → outcome_walk.are_in_order s outcome_walk.nothing_known items ≡ item_conditions.each_shown (session_conditions.is_in_order s) items

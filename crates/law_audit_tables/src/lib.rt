@@ -7,3 +7,13 @@ ghost use Rattle.law_audit_tables.specs.TablesFound as laws;
 pub fn signs_find_lawful()
     ensures { laws.SignsFindLawful }
 {}
+
+/// The walk over a history with the book gives what each act gives.
+pub fn turns_are_given()
+    ensures { laws.TurnsAreGiven }
+{}
+
+/// The walk over the items with what is known of a session finds whether its outcomes are in order.
+pub fn outcomes_are_walked()
+    ensures { laws.OutcomesAreWalked }
+{}
