@@ -2,3 +2,4 @@ pub mod Lists
 pub mod Signs
 pub mod Turns
 pub mod OutcomeWalk
+pub mod OnceWalk

@@ -1,4 +1,7 @@
 pub mod Signs
 pub mod Turns
 pub mod OutcomeWalk
+pub mod OnceWalk
+pub mod HeardWalk
+pub mod ReadWalk
 pub mod TablesFound

@@ -9,6 +9,7 @@ use Rattle.spec_audit.specs.SessionConditions as session_conditions
 use Rattle.law_audit_tables.specs.Signs as signs
 use Rattle.law_audit_tables.specs.Turns as turns
 use Rattle.law_audit_tables.specs.OutcomeWalk as outcome_walk
+use Rattle.law_audit_tables.specs.OnceWalk as once_walk
 
 abbrev pub SignsFindLawful : Type 0
 SignsFindLawful = (timeout : ℕ) (h : histories.History) → signs.are_allowed timeout [] 0 h ≡ history_condition.is_lawful timeout h
@@ -19,3 +20,7 @@ TurnsAreGiven = (h : histories.History) (p : ℕ) → lists.at_place (turns.turn
 abbrev pub OutcomesAreWalked : Type 0
 OutcomesAreWalked = (s : ℕ) (items : List Item)
     → outcome_walk.are_in_order s outcome_walk.nothing_known items ≡ item_conditions.each_shown (session_conditions.is_in_order s) items
+
+abbrev pub OnceIsWalked : Type 0
+OnceIsWalked = (h : histories.History) (s : ℕ) (items : List Item)
+    → once_walk.take_effect s 0 (histories.dos h s) items ≡ session_conditions.takes_effect_once items h s

@@ -17,3 +17,8 @@ pub fn turns_are_given()
 pub fn outcomes_are_walked()
     ensures { laws.OutcomesAreWalked }
 {}
+
+/// The walk over the items with the acts that are left finds whether a session's commands take effect once, in order.
+pub fn once_is_walked()
+    ensures { laws.OnceIsWalked }
+{}
