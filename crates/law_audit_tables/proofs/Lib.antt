@@ -3,3 +3,4 @@ pub mod Signs
 pub mod Turns
 pub mod OutcomeWalk
 pub mod OnceWalk
+pub mod HeardWalk

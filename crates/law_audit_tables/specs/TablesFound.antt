@@ -10,6 +10,7 @@ use Rattle.law_audit_tables.specs.Signs as signs
 use Rattle.law_audit_tables.specs.Turns as turns
 use Rattle.law_audit_tables.specs.OutcomeWalk as outcome_walk
 use Rattle.law_audit_tables.specs.OnceWalk as once_walk
+use Rattle.law_audit_tables.specs.HeardWalk as heard_walk
 
 abbrev pub SignsFindLawful : Type 0
 SignsFindLawful = (timeout : ℕ) (h : histories.History) → signs.are_allowed timeout [] 0 h ≡ history_condition.is_lawful timeout h
@@ -24,3 +25,7 @@ OutcomesAreWalked = (s : ℕ) (items : List Item)
 abbrev pub OnceIsWalked : Type 0
 OnceIsWalked = (h : histories.History) (s : ℕ) (items : List Item)
     → once_walk.take_effect s 0 (histories.dos h s) items ≡ session_conditions.takes_effect_once items h s
+
+abbrev pub HeardIsWalked : Type 0
+HeardIsWalked = (h : histories.History) (s : ℕ) (items : List Item)
+    → heard_walk.hears s (histories.events h s) items ≡ session_conditions.hears_in_order items h s

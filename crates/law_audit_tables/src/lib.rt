@@ -22,3 +22,8 @@ pub fn outcomes_are_walked()
 pub fn once_is_walked()
     ensures { laws.OnceIsWalked }
 {}
+
+/// The walk over the items with the batches that are left finds whether a session hears what it is told, in order.
+pub fn heard_is_walked()
+    ensures { laws.HeardIsWalked }
+{}
