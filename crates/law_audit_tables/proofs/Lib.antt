@@ -4,3 +4,4 @@ pub mod Turns
 pub mod OutcomeWalk
 pub mod OnceWalk
 pub mod HeardWalk
+pub mod ReadWalk

@@ -1,5 +1,5 @@
 -- One pass with tables finds what the conditions of the audit say.
-use Rattle.std.specs.Prelude.{ℕ, ◌≡◌, List, []}
+use Rattle.std.specs.Prelude.{ℕ, ◌≡◌, List, [], map}
 use Rattle.ax_types.specs.Places as lists
 use Rattle.ax_types.specs.declared.items.Item.{Item}
 use Rattle.spec_book.specs.History as histories
@@ -11,6 +11,7 @@ use Rattle.law_audit_tables.specs.Turns as turns
 use Rattle.law_audit_tables.specs.OutcomeWalk as outcome_walk
 use Rattle.law_audit_tables.specs.OnceWalk as once_walk
 use Rattle.law_audit_tables.specs.HeardWalk as heard_walk
+use Rattle.law_audit_tables.specs.ReadWalk as read_walk
 
 abbrev pub SignsFindLawful : Type 0
 SignsFindLawful = (timeout : ℕ) (h : histories.History) → signs.are_allowed timeout [] 0 h ≡ history_condition.is_lawful timeout h
@@ -29,3 +30,7 @@ OnceIsWalked = (h : histories.History) (s : ℕ) (items : List Item)
 abbrev pub HeardIsWalked : Type 0
 HeardIsWalked = (h : histories.History) (s : ℕ) (items : List Item)
     → heard_walk.hears s (histories.events h s) items ≡ session_conditions.hears_in_order items h s
+
+abbrev pub ReadsAreWalked : Type 0
+ReadsAreWalked = (h : histories.History) (s : ℕ) (items : List Item)
+    → read_walk.grow s (map (λ d. d.0) (histories.dos h s)) [] 0 items ≡ item_conditions.each_shown (session_conditions.is_growing h s) items

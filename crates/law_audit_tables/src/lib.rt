@@ -27,3 +27,8 @@ pub fn once_is_walked()
 pub fn heard_is_walked()
     ensures { laws.HeardIsWalked }
 {}
+
+/// The walk over the items with the numbers of the commands and the greatest place finds whether a session's reads grow.
+pub fn reads_are_walked()
+    ensures { laws.ReadsAreWalked }
+{}
