@@ -4,4 +4,5 @@ pub mod OutcomeWalk
 pub mod OnceWalk
 pub mod HeardWalk
 pub mod ReadWalk
+pub mod EndWalk
 pub mod TablesFound
