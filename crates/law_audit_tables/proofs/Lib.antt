@@ -5,3 +5,4 @@ pub mod OutcomeWalk
 pub mod OnceWalk
 pub mod HeardWalk
 pub mod ReadWalk
+pub mod EndWalk

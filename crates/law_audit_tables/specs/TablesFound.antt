@@ -12,6 +12,7 @@ use Rattle.law_audit_tables.specs.OutcomeWalk as outcome_walk
 use Rattle.law_audit_tables.specs.OnceWalk as once_walk
 use Rattle.law_audit_tables.specs.HeardWalk as heard_walk
 use Rattle.law_audit_tables.specs.ReadWalk as read_walk
+use Rattle.law_audit_tables.specs.EndWalk as end_walk
 
 abbrev pub SignsFindLawful : Type 0
 SignsFindLawful = (timeout : ℕ) (h : histories.History) → signs.are_allowed timeout [] 0 h ≡ history_condition.is_lawful timeout h
@@ -34,3 +35,7 @@ HeardIsWalked = (h : histories.History) (s : ℕ) (items : List Item)
 abbrev pub ReadsAreWalked : Type 0
 ReadsAreWalked = (h : histories.History) (s : ℕ) (items : List Item)
     → read_walk.grow s (map (λ d. d.0) (histories.dos h s)) [] 0 items ≡ item_conditions.each_shown (session_conditions.is_growing h s) items
+
+abbrev pub EndsAreWalked : Type 0
+EndsAreWalked = (h : histories.History) (s : ℕ) (items : List Item)
+    → end_walk.run_course h s end_walk.nothing_yet items ≡ session_conditions.ends_rightly items h s

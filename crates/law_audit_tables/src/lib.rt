@@ -32,3 +32,8 @@ pub fn heard_is_walked()
 pub fn reads_are_walked()
     ensures { laws.ReadsAreWalked }
 {}
+
+/// The walk over the items with a session's course finds whether it ends rightly.
+pub fn ends_are_walked()
+    ensures { laws.EndsAreWalked }
+{}
