@@ -3,4 +3,5 @@
 
 mod commits;
 mod lawful;
+mod outcomes;
 mod signs;
