@@ -6,3 +6,4 @@ pub mod OnceWalk
 pub mod HeardWalk
 pub mod ReadWalk
 pub mod EndWalk
+pub mod Waiting

@@ -3,9 +3,11 @@ use Rattle.std.specs.Prelude.{ℕ, ◌≡◌, List, [], map}
 use Rattle.ax_types.specs.Places as lists
 use Rattle.ax_types.specs.declared.items.Item.{Item}
 use Rattle.spec_book.specs.History as histories
+use Rattle.spec_report.specs.Items as report_items
 use Rattle.spec_audit.specs.HistoryCondition as history_condition
 use Rattle.spec_audit.specs.ItemConditions as item_conditions
 use Rattle.spec_audit.specs.SessionConditions as session_conditions
+use Rattle.spec_audit.specs.Audit as audits
 use Rattle.law_audit_tables.specs.Signs as signs
 use Rattle.law_audit_tables.specs.Turns as turns
 use Rattle.law_audit_tables.specs.OutcomeWalk as outcome_walk
@@ -39,3 +41,6 @@ ReadsAreWalked = (h : histories.History) (s : ℕ) (items : List Item)
 abbrev pub EndsAreWalked : Type 0
 EndsAreWalked = (h : histories.History) (s : ℕ) (items : List Item)
     → end_walk.run_course h s end_walk.nothing_yet items ≡ session_conditions.ends_rightly items h s
+
+abbrev pub WaitingIsTold : Type 0
+WaitingIsTold = (items : List Item) → audits.waiting_of_items items ≡ report_items.waiting_of items

@@ -37,3 +37,8 @@ pub fn reads_are_walked()
 pub fn ends_are_walked()
     ensures { laws.EndsAreWalked }
 {}
+
+/// The calls that wait, as a report tells them, are those without an outcome.
+pub fn waiting_is_told()
+    ensures { laws.WaitingIsTold }
+{}
