@@ -437,6 +437,7 @@ fn made_reach(reached: Option<(NodeId, u64, u64)>, numbers: Option<(u64, u64)>) 
     })
 }
 
+#[tactic(auto, using(crate::proofs::Short::short_reach_item, crate::proofs::Short::long_reach_item))]
 fn reach_item(words: &[&[u8]]) -> Option<Item>
     ensures { result ≡ item_words.reach_item_from (behind.words_behind words.now) }
 {
@@ -500,6 +501,7 @@ fn made_pending(number: Option<u64>, sent: Option<(End, End, PayloadKind)>) -> O
     })
 }
 
+#[tactic(auto, using(crate::proofs::Short::short_pending, crate::proofs::Short::long_pending))]
 fn pending(words: &[&[u8]]) -> Option<Item>
     ensures { result ≡ item_words.pending_from (behind.words_behind words.now) }
 {

@@ -1,4 +1,5 @@
-ghost use Rattle.std.specs.Prelude.{◌≡◌, IfOk, ◌∷◌, [], Some, None};
+ghost use Rattle.std.specs.Prelude.{◌≡◌, ◌==◌, IfOk, ◌∷◌, []};
+ghost use Rattle.std.specs.List.{position};
 ghost use Rattle.spec_text.specs.Words as spec_words;
 ghost use Rattle.spec_text.specs.OperationWords as operation_words;
 ghost use Rattle.spec_report_read.specs.ReplyWords as reply_words;
@@ -60,11 +61,18 @@ pub fn numbers64(alloc: Global, words: &[&[u8]]) -> Result<Option<List<u64>>, No
     Ok(Some(numbers))
 }
 
+/// Where the first dot stands.
+fn dot(word: &[u8]) -> Option<usize>
+    ensures { result ≡ position (λ b. b == 46) word.now }
+{
+    word.iter().position(|b| *b == b'.')
+}
+
 /// The numbers before and behind the first dot: `TERM.A`.
 pub fn arrival(word: &[u8]) -> Option<(u64, u64)>
     ensures { result ≡ item_words.arrival_from word.now }
 {
-    match word.iter().position(|b| *b == b'.') {
+    match dot(word) {
         Some(at) => pair_of_numbers(&word[..at], &word[at + 1..]),
         None => None,
     }

@@ -177,6 +177,7 @@ fn behind_event<'a, 'b>(words: &'a [&'b [u8]]) -> &'a [&'b [u8]]
     behind_front(words, first_size(words))
 }
 
+#[tactic(auto, using(crate::proofs::Loops::event_read))]
 /// So many events, and no further word.
 fn events(alloc: Global, count: u64, words: &[&[u8]]) -> Result<Option<List<Event>>, NoMemory>
     ensures { IfOk result (λ read. read ≡ reply_words.events_from count (behind.words_behind words.now)) }

@@ -1,4 +1,5 @@
 ghost use Rattle.std.specs.Prelude.{◌≡◌, IfOk, option_map, codes};
+ghost use Rattle.ax_types.specs.declared.refusals.ReportRefused.TheVariants as refusals;
 ghost use Rattle.serde_json.specs.Find.{get};
 ghost use Rattle.serde_json.specs.View.{view, items_view};
 ghost use Rattle.spec_text.specs.Words as spec_words;
@@ -62,6 +63,7 @@ fn run_end_in(alloc: Global, value: &Value) -> Result<Option<RunEnd>, NoMemory>
     }
 }
 
+#[tactic(auto, using(crate::proofs::Loops::next_line_read))]
 /// The items of an array of lines.
 fn items_in(alloc: Global, lines: &[Value]) -> Result<Option<List<Item>>, NoMemory>
     ensures { IfOk result (λ read. read ≡ report_form.items_in (items_view lines.now)) }
@@ -236,8 +238,44 @@ fn value_of(alloc: Global, bytes: &[u8]) -> Result<Option<Value>, NoMemory>
     }
 }
 
-fn refused(why: ReportWhy) -> ReportRefused {
+fn refused(why: ReportWhy) -> ReportRefused
+    ensures { result ≡ refusals.NotReport why }
+{
     ReportRefused::NotReport { why }
+}
+
+fn or_shape(read: Option<Report>) -> Result<Report, ReportRefused>
+    ensures { read_answers.ReadsReport (report_form.or_shape read) result }
+{
+    match read {
+        Some(report) => Ok(report),
+        None => Err(refused(ReportWhy::Shape)),
+    }
+}
+
+/// The report of a JSON value.
+fn report_in(alloc: Global, value: &Value) -> Result<Report, ReportRefused>
+    ensures { read_answers.ReadsReport (report_form.or_shape (report_form.report_from_data (view value.now))) result }
+{
+    or_shape(report_of(alloc, value)?)
+}
+
+/// The report of bytes of any number.
+fn report_in_bytes(alloc: Global, bytes: &[u8]) -> Result<Report, ReportRefused>
+    ensures { read_answers.ReadsReport (report_form.or_json (report_form.data_from_bytes bytes.now)) result }
+{
+    match value_of(alloc, bytes)? {
+        Some(value) => report_in(alloc, &value),
+        None => Err(refused(ReportWhy::Json)),
+    }
+}
+
+#[tactic(auto, unfolding(spec_report_read::specs::ReportForm::is_longer, spec_report_read::specs::ReportForm::longest_report))]
+/// Whether they are more than a report may have.
+fn is_longer(bytes: &[u8]) -> bool
+    ensures { result ≡ report_form.is_longer bytes.now }
+{
+    bytes.len() > MAX_REPORT
 }
 
 /// Reads a report from its JSON form. Bytes that are no report are refused for the first of these reasons: more than
@@ -246,14 +284,9 @@ fn refused(why: ReportWhy) -> ReportRefused {
 pub fn read_report(alloc: Global, bytes: &[u8]) -> Result<Report, ReportRefused>
     ensures { read_answers.ReadsReport (report_form.read_report_from bytes.now) result }
 {
-    if bytes.len() > MAX_REPORT {
-        return Err(refused(ReportWhy::TooLong));
-    }
-    let Some(value) = value_of(alloc, bytes)? else {
-        return Err(refused(ReportWhy::Json));
-    };
-    match report_of(alloc, &value)? {
-        Some(report) => Ok(report),
-        None => Err(refused(ReportWhy::Shape)),
+    if is_longer(bytes) {
+        Err(refused(ReportWhy::TooLong))
+    } else {
+        report_in_bytes(alloc, bytes)
     }
 }
