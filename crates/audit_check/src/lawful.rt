@@ -7,13 +7,7 @@ use ax_types::{Act, List, NoMemory};
 use std::alloc::Global;
 
 /// The next act of a history, where it is lawful behind the acts that made the signs: whether it is, and the signs with it.
-fn next(
-    signs: &mut Signs,
-    timeout: u64,
-    last: u64,
-    time: u64,
-    act: &Act,
-) -> Result<bool, NoMemory>
+fn next(signs: &mut Signs, timeout: u64, last: u64, time: u64, act: &Act) -> Result<bool, NoMemory>
     ensures test { IfOk result (λ is. is ≡ (nat_le last time && spec_signs.is_allowed timeout signs.old time act.now)) }
     ensures after { OnOk result (signs.new ≡ spec_signs.signed signs.old time act.now) }
 {
@@ -24,11 +18,7 @@ fn next(
 
 /// Whether a history is lawful: times never fall, what is done, kept, closed or expired is of a live session, and a session
 /// expires only where its last sign is at least the timeout ago.
-pub fn is_lawful(
-    alloc: Global,
-    timeout: u64,
-    history: &List<(u64, Act)>,
-) -> Result<bool, NoMemory>
+pub fn is_lawful(alloc: Global, timeout: u64, history: &List<(u64, Act)>) -> Result<bool, NoMemory>
     ensures { IfOk result (λ is. is ≡ history_condition.is_lawful timeout history.now) }
 {
     let mut signs = Signs::with_capacity(alloc, history.len())?;

@@ -222,7 +222,7 @@ runs h s above c (w ∷ ws) (x ∷ items) e d = ap (by_expected h s c x items) e
     due t n y true f g o n2 a u i j l =
         let same = g (sym f) in
         let next_course : Describes s (y ∷ above) k =
-          next s y above c k false false [] (Some n) o n2 a (u ∙ ap (λ b. if b then Some n else None) same.0) d refl refl (append-nil c.calls) (ap (λ m. m ∷ c.outcomes) (sym (equal w.0 n same.1))) in
+        next s y above c k false false [] (Some n) o n2 a (u ∙ ap (λ b. if b then Some n else None) same.0) d refl refl (append-nil c.calls) (ap (λ m. m ∷ c.outcomes) (sym (equal w.0 n same.1))) in
         let ending : session_conditions.is_ending s (suc (length ws)) above items y ≡ true = j ∙ ap (λ b. if b then nat_lt 0 (suc (length ws)) else true) same.0 ∙ some_left (length ws) in
         let left : session_conditions.left_below s (suc (length ws)) above y ≡ length ws = l ∙ ap (λ b. if b then suc (length ws) - 1 else suc (length ws)) same.0 ∙ one_less (length ws) in
         runs h s (y ∷ above) k ws items refl next_course
@@ -248,7 +248,7 @@ runs h s above c [] (x ∷ items) e d = ap (by_expected h s c x items) e ∙ fre
 
         go : (b : Bool) → nat_eq s t ≡ b → by_expected h s c y items [] ≡ conditions h s above 0 (y ∷ items)
         go true f = stands h s above c y items f refl refl refl (runs h s (y ∷ above) (end_walk.with_opening c) [] items e
-          (next s y above c (end_walk.with_opening c) true false [] None f refl refl refl d refl refl (append-nil c.calls) refl))
+            (next s y above c (end_walk.with_opening c) true false [] None f refl refl refl d refl refl (append-nil c.calls) refl))
         go false f = other h s above c y items f refl refl refl (runs h s (y ∷ above) c [] items e (quiet s y above c f refl refl refl d))
     free (item.Called t n call) = go (nat_eq s t) refl
       where
@@ -257,10 +257,10 @@ runs h s above c [] (x ∷ items) e d = ap (by_expected h s c x items) e ∙ fre
 
         go : (b : Bool) → nat_eq s t ≡ b → by_expected h s c y items [] ≡ conditions h s above 0 (y ∷ items)
         go true f = stands h s above c y items f (ap (λ b. if b then session_conditions.is_open_for s above else true) f ∙ open_now s above c d) refl refl
-          (runs h s (y ∷ above) (end_walk.with_call c (n, transcripts.is_command call)) [] items e
-          (next s y above c (end_walk.with_call c (n, transcripts.is_command call)) false false ((n, call) ∷ []) None refl refl (ap (λ b. if b then (n, call) ∷ [] else []) f) refl d refl refl refl refl))
+            (runs h s (y ∷ above) (end_walk.with_call c (n, transcripts.is_command call)) [] items e
+            (next s y above c (end_walk.with_call c (n, transcripts.is_command call)) false false ((n, call) ∷ []) None refl refl (ap (λ b. if b then (n, call) ∷ [] else []) f) refl d refl refl refl refl))
         go false f = other h s above c y items f (ap (λ b. if b then session_conditions.is_open_for s above else true) f) refl refl
-          (runs h s (y ∷ above) c [] items e (quiet s y above c refl refl (ap (λ b. if b then (n, call) ∷ [] else []) f) refl d))
+            (runs h s (y ∷ above) c [] items e (quiet s y above c refl refl (ap (λ b. if b then (n, call) ∷ [] else []) f) refl d))
     free (item.Event t p prev es) = go (nat_eq s t) refl
       where
         y : Item
@@ -268,9 +268,9 @@ runs h s above c [] (x ∷ items) e d = ap (by_expected h s c x items) e ∙ fre
 
         go : (b : Bool) → nat_eq s t ≡ b → by_expected h s c y items [] ≡ conditions h s above 0 (y ∷ items)
         go true f = stands h s above c y items f (ap (λ b. if b then session_conditions.is_open_for s above else true) f ∙ open_now s above c d) refl refl
-          (runs h s (y ∷ above) c [] items e (quiet s y above c refl refl refl refl d))
+            (runs h s (y ∷ above) c [] items e (quiet s y above c refl refl refl refl d))
         go false f = other h s above c y items f (ap (λ b. if b then session_conditions.is_open_for s above else true) f) refl refl
-          (runs h s (y ∷ above) c [] items e (quiet s y above c refl refl refl refl d))
+            (runs h s (y ∷ above) c [] items e (quiet s y above c refl refl refl refl d))
     free (item.Reply t n p r) = go (nat_eq s t) refl
       where
         y : Item
@@ -278,9 +278,9 @@ runs h s above c [] (x ∷ items) e d = ap (by_expected h s c x items) e ∙ fre
 
         go : (b : Bool) → nat_eq s t ≡ b → by_expected h s c y items [] ≡ conditions h s above 0 (y ∷ items)
         go true f = stands h s above c y items f (ap (λ b. if b then session_conditions.is_open_for s above else true) f ∙ open_now s above c d) refl refl
-          (runs h s (y ∷ above) (end_walk.with_outcome c n) [] items e (answered s n y above c refl refl refl (ap (λ b. if b then Some n else None) f) d))
+            (runs h s (y ∷ above) (end_walk.with_outcome c n) [] items e (answered s n y above c refl refl refl (ap (λ b. if b then Some n else None) f) d))
         go false f = other h s above c y items f (ap (λ b. if b then session_conditions.is_open_for s above else true) f) refl refl
-          (runs h s (y ∷ above) c [] items e (quiet s y above c refl refl refl (ap (λ b. if b then Some n else None) f) d))
+            (runs h s (y ∷ above) c [] items e (quiet s y above c refl refl refl (ap (λ b. if b then Some n else None) f) d))
     free (item.Read t n l p reach r) = go (nat_eq s t) refl
       where
         y : Item
@@ -288,9 +288,9 @@ runs h s above c [] (x ∷ items) e d = ap (by_expected h s c x items) e ∙ fre
 
         go : (b : Bool) → nat_eq s t ≡ b → by_expected h s c y items [] ≡ conditions h s above 0 (y ∷ items)
         go true f = stands h s above c y items f (ap (λ b. if b then session_conditions.is_open_for s above else true) f ∙ open_now s above c d) refl refl
-          (runs h s (y ∷ above) (end_walk.with_outcome c n) [] items e (answered s n y above c refl refl refl (ap (λ b. if b then Some n else None) f) d))
+            (runs h s (y ∷ above) (end_walk.with_outcome c n) [] items e (answered s n y above c refl refl refl (ap (λ b. if b then Some n else None) f) d))
         go false f = other h s above c y items f (ap (λ b. if b then session_conditions.is_open_for s above else true) f) refl refl
-          (runs h s (y ∷ above) c [] items e (quiet s y above c refl refl refl (ap (λ b. if b then Some n else None) f) d))
+            (runs h s (y ∷ above) c [] items e (quiet s y above c refl refl refl (ap (λ b. if b then Some n else None) f) d))
     free (item.Unsent t n) = go (nat_eq s t) refl
       where
         y : Item
@@ -298,9 +298,9 @@ runs h s above c [] (x ∷ items) e d = ap (by_expected h s c x items) e ∙ fre
 
         go : (b : Bool) → nat_eq s t ≡ b → by_expected h s c y items [] ≡ conditions h s above 0 (y ∷ items)
         go true f = stands h s above c y items f (ap (λ b. if b then list_any (outcome_order.is_ended s) above else true) f ∙ d.ended) refl refl
-          (runs h s (y ∷ above) (end_walk.with_outcome c n) [] items e (answered s n y above c refl refl refl (ap (λ b. if b then Some n else None) f) d))
+            (runs h s (y ∷ above) (end_walk.with_outcome c n) [] items e (answered s n y above c refl refl refl (ap (λ b. if b then Some n else None) f) d))
         go false f = other h s above c y items f (ap (λ b. if b then list_any (outcome_order.is_ended s) above else true) f) refl refl
-          (runs h s (y ∷ above) c [] items e (quiet s y above c refl refl refl (ap (λ b. if b then Some n else None) f) d))
+            (runs h s (y ∷ above) c [] items e (quiet s y above c refl refl refl (ap (λ b. if b then Some n else None) f) d))
     free (item.Unanswered t n) = go (nat_eq s t) refl
       where
         y : Item
@@ -308,9 +308,9 @@ runs h s above c [] (x ∷ items) e d = ap (by_expected h s c x items) e ∙ fre
 
         go : (b : Bool) → nat_eq s t ≡ b → by_expected h s c y items [] ≡ conditions h s above 0 (y ∷ items)
         go true f = stands h s above c y items f refl refl refl
-          (runs h s (y ∷ above) (end_walk.with_outcome c n) [] items e (answered s n y above c refl refl refl (ap (λ b. if b then Some n else None) f) d))
+            (runs h s (y ∷ above) (end_walk.with_outcome c n) [] items e (answered s n y above c refl refl refl (ap (λ b. if b then Some n else None) f) d))
         go false f = other h s above c y items f refl refl refl
-          (runs h s (y ∷ above) c [] items e (quiet s y above c refl refl refl (ap (λ b. if b then Some n else None) f) d))
+            (runs h s (y ∷ above) c [] items e (quiet s y above c refl refl refl (ap (λ b. if b then Some n else None) f) d))
     free (item.Doubt t n) = go (nat_eq s t) refl
       where
         y : Item
@@ -323,7 +323,7 @@ runs h s above c [] (x ∷ items) e d = ap (by_expected h s c x items) e ∙ fre
             ∙ sym (ap (λ b. (true && item_conditions.each_below (session_conditions.is_in_session h s) (y ∷ above) items)
             && ((if b then nat_lt 0 0 else true) && session_conditions.are_ends s (session_conditions.left_below s 0 above y) (y ∷ above) items)) f)
         go false f = other h s above c y items f refl (ap (λ b. if b then nat_lt 0 0 else true) f) (ap (λ b. if b then 0 - 1 else 0) f)
-          (runs h s (y ∷ above) c [] items e (quiet s y above c refl refl refl (ap (λ b. if b then Some n else None) f) d))
+            (runs h s (y ∷ above) c [] items e (quiet s y above c refl refl refl (ap (λ b. if b then Some n else None) f) d))
     free (item.Lost t n) = go (nat_eq s t) refl
       where
         y : Item
@@ -336,7 +336,7 @@ runs h s above c [] (x ∷ items) e d = ap (by_expected h s c x items) e ∙ fre
             ∙ sym (ap (λ b. (true && item_conditions.each_below (session_conditions.is_in_session h s) (y ∷ above) items)
             && ((if b then nat_lt 0 0 else true) && session_conditions.are_ends s (session_conditions.left_below s 0 above y) (y ∷ above) items)) f)
         go false f = other h s above c y items f refl (ap (λ b. if b then nat_lt 0 0 else true) f) (ap (λ b. if b then 0 - 1 else 0) f)
-          (runs h s (y ∷ above) c [] items e (quiet s y above c refl refl refl (ap (λ b. if b then Some n else None) f) d))
+            (runs h s (y ∷ above) c [] items e (quiet s y above c refl refl refl (ap (λ b. if b then Some n else None) f) d))
     free (item.Ended t p how.Expired) = go (nat_eq s t) refl
       where
         y : Item
@@ -359,9 +359,9 @@ runs h s above c [] (x ∷ items) e d = ap (by_expected h s c x items) e ∙ fre
             ∙ sym (ap₂ (λ (b : Bool) (n : ℕ). b && (item_conditions.each_below (session_conditions.is_in_session h s) (y ∷ above) items && session_conditions.are_ends s n (y ∷ above) items))
             (ap (λ b. if b then session_conditions.are_doubted s us items else true) f) (ap (λ b. if b then length us else 0) f)))
         go false f = other h s above c y items f
-          (ap (λ b. if b then session_conditions.is_open_for s above && session_conditions.is_end_of s how.Expired (lists.at_place h p) else true) f)
-          (ap (λ b. if b then session_conditions.are_doubted s us items else true) f) (ap (λ b. if b then length us else 0) f)
-          (runs h s (y ∷ above) c [] items e (quiet s y above c refl f refl refl d))
+            (ap (λ b. if b then session_conditions.is_open_for s above && session_conditions.is_end_of s how.Expired (lists.at_place h p) else true) f)
+            (ap (λ b. if b then session_conditions.are_doubted s us items else true) f) (ap (λ b. if b then length us else 0) f)
+            (runs h s (y ∷ above) c [] items e (quiet s y above c refl f refl refl d))
     free (item.Ended t p how.Closed) = go (nat_eq s t) refl
       where
         y : Item
@@ -384,9 +384,9 @@ runs h s above c [] (x ∷ items) e d = ap (by_expected h s c x items) e ∙ fre
             (ap (λ b. if b then nat_eq (length us) 0 else true) f ∙ none_open us ∙ ap end_walk.is_none (left_open s above c d))
             (runs h s (y ∷ above) k [] items refl (next s y above c k false true [] None refl f refl refl d refl refl (append-nil c.calls) refl))
         go false f = other h s above c y items f
-          (ap (λ b. if b then session_conditions.is_open_for s above && session_conditions.is_end_of s how.Closed (lists.at_place h p) else true) f)
-          (ap (λ b. if b then nat_eq (length us) 0 else true) f) refl
-          (runs h s (y ∷ above) c [] items e (quiet s y above c refl f refl refl d))
+            (ap (λ b. if b then session_conditions.is_open_for s above && session_conditions.is_end_of s how.Closed (lists.at_place h p) else true) f)
+            (ap (λ b. if b then nat_eq (length us) 0 else true) f) refl
+            (runs h s (y ∷ above) c [] items e (quiet s y above c refl f refl refl d))
     free y = other h s above c y items refl refl refl refl (runs h s (y ∷ above) c [] items e (quiet s y above c refl refl refl refl d))
 
 pub ends_are_walked : laws.EndsAreWalked

@@ -209,9 +209,9 @@ still : (h : histories.History) (s : ℕ) (x : Item) (above : List Item) (done r
 still h s x above done rest e k = record {
   split = k.split;
   told = all_since (λ f. session_conditions.is_heard_in above s f ≡ true) (λ f. session_conditions.is_heard_in (x ∷ above) s f ≡ true)
-    (λ f i. ap (list_any (same_values.is_same_heard f)) (heard_next s x above [] e) ∙ i) done k.told;
+      (λ f i. ap (list_any (same_values.is_same_heard f)) (heard_next s x above [] e) ∙ i) done k.told;
   left = all_since (λ f. session_conditions.is_heard_in above s f ≡ false) (λ f. session_conditions.is_heard_in (x ∷ above) s f ≡ false)
-    (λ f i. ap (list_any (same_values.is_same_heard f)) (heard_next s x above [] e) ∙ i) rest k.left;
+      (λ f i. ap (list_any (same_values.is_same_heard f)) (heard_next s x above [] e) ∙ i) rest k.left;
 }
 
 or_true : (b : Bool) → (b || true) ≡ true
@@ -224,9 +224,9 @@ heard_too : (h : histories.History) (s : ℕ) (x : Item) (above : List Item) (do
 heard_too h s x above done f rest e is same k = record {
   split = k.split ∙ sym (append_assoc done (f ∷ []) rest);
   told = all_append (λ g. session_conditions.is_heard_in (x ∷ above) s g ≡ true) done (f ∷ [])
-    (all_since (λ g. session_conditions.is_heard_in above s g ≡ true) (λ g. session_conditions.is_heard_in (x ∷ above) s g ≡ true)
-    (λ g i. next g ∙ ap (λ b. same_values.is_same_heard g e || b) i ∙ or_true (same_values.is_same_heard g e)) done k.told)
-    (next f ∙ ap (λ b. b || session_conditions.is_heard_in above s f) (heard_either f e ∙ same), tt);
+      (all_since (λ g. session_conditions.is_heard_in above s g ≡ true) (λ g. session_conditions.is_heard_in (x ∷ above) s g ≡ true)
+      (λ g i. next g ∙ ap (λ b. same_values.is_same_heard g e || b) i ∙ or_true (same_values.is_same_heard g e)) done k.told)
+      (next f ∙ ap (λ b. b || session_conditions.is_heard_in above s f) (heard_either f e ∙ same), tt);
   left = later rest k.left.1 (tail_rises done f rest (subst Rise k.split (chain_rises 0 (histories.events h s) (events_chain h s).chain).1));
 }
   where

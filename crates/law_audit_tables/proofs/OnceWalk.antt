@@ -132,7 +132,7 @@ record IsNothing (h : histories.History) (s : ℕ) (x : Item) : Type 0 where
 
 record IsCommand (h : histories.History) (s : ℕ) (x : Item) (name : List ℕ) (op : Op) : Type 0 where
   walk : (commit : ℕ) (rest : once_walk.Dos) (items : List Item)
-    → once_walk.take_effect s commit rest (x ∷ items) ≡ (once_walk.may_call commit rest name op && once_walk.take_effect s commit (once_walk.behind_first rest) items)
+      → once_walk.take_effect s commit rest (x ∷ items) ≡ (once_walk.may_call commit rest name op && once_walk.take_effect s commit (once_walk.behind_first rest) items)
   commands : (items : List Item) → once.commands s (x ∷ items) ≡ (name, op) ∷ once.commands s items
   count : (above : List Item) → called_commands s (x ∷ above) ≡ suc (called_commands s above)
   test : (above : List Item) → session_conditions.is_called_before h s above x ≡ true
@@ -168,7 +168,7 @@ shows_call h s t n (call.Command name op) = go (nat_eq s t) refl
           walk = λ commit rest items. ap (λ b. if b then once_walk.may_call commit rest name op && once_walk.take_effect s commit (once_walk.behind_first rest) items else once_walk.take_effect s commit rest items) e;
           commands = λ items. commands_next s x items ((n, call.Command name op) ∷ []) cs ∙ flat_map-cons once.command_of (n, call.Command name op) (transcripts.calls s items);
           count = λ above. ap (count_by (λ c. transcripts.is_command c.1)) (calls_next s x above ((n, call.Command name op) ∷ []) cs)
-            ∙ (let k = count_more true (n, call.Command name op) (transcripts.calls s above) refl in omega (arith, k));
+              ∙ (let k = count_more true (n, call.Command name op) (transcripts.calls s above) refl in omega (arith, k));
           test = λ above. refl;
         })
     go false e = quiet h s x (λ commit rest items. ap (λ b. if b then once_walk.may_call commit rest name op && once_walk.take_effect s commit (once_walk.behind_first rest) items else once_walk.take_effect s commit rest items) e)
@@ -185,7 +185,7 @@ shows_call h s t n (call.Query level name query) = go (nat_eq s t) refl
           walk = λ commit rest items. refl;
           commands = λ items. commands_next s x items ((n, call.Query level name query) ∷ []) cs ∙ flat_map-cons once.command_of (n, call.Query level name query) (transcripts.calls s items);
           count = λ above. ap (count_by (λ c. transcripts.is_command c.1)) (calls_next s x above ((n, call.Query level name query) ∷ []) cs)
-            ∙ (let k = count_more false (n, call.Query level name query) (transcripts.calls s above) refl in omega (arith, k));
+              ∙ (let k = count_more false (n, call.Query level name query) (transcripts.calls s above) refl in omega (arith, k));
           test = λ above. refl;
         })
     go false e = quiet h s x (λ commit rest items. refl) (ap (λ b. if b then (n, call.Query level name query) ∷ [] else []) e) (λ above. refl)

@@ -153,11 +153,11 @@ called s above k t m c d e f =
     record {
       size = ap (λ ds. length ds) cs ∙ ap (λ n. suc n) d.size ∙ sym (longer k.commands (transcripts.is_command c));
       commands = λ n. ap (list_any (item_conditions.is_command_numbered n)) cs
-        ∙ ap₂ (λ (p : ℕ) (b : Bool). nat_eq n p && transcripts.is_command c || b) is (d.commands n)
-        ∙ sym (found_last k.commands (transcripts.is_command c) outcome_walk.is_some_command n refl);
+          ∙ ap₂ (λ (p : ℕ) (b : Bool). nat_eq n p && transcripts.is_command c || b) is (d.commands n)
+          ∙ sym (found_last k.commands (transcripts.is_command c) outcome_walk.is_some_command n refl);
       queries = λ n. ap (list_any (session_conditions.is_query_numbered n)) cs
-        ∙ ap₂ (λ (p : ℕ) (b : Bool). nat_eq n p && not (transcripts.is_command c) || b) is (d.queries n)
-        ∙ sym (found_last k.commands (transcripts.is_command c) outcome_walk.is_some_query n refl);
+          ∙ ap₂ (λ (p : ℕ) (b : Bool). nat_eq n p && not (transcripts.is_command c) || b) is (d.queries n)
+          ∙ sym (found_last k.commands (transcripts.is_command c) outcome_walk.is_some_query n refl);
       unsent = not_unsent s above k x d refl;
       highest = no_outcome s above k x d refl;
       left_open = still_open s above k x d refl;
@@ -279,17 +279,17 @@ other s above k (item.Called t n c) d e = record {
 }
 other s above k (item.Unsent t n) d e = record {
   test = ap (λ b. (if b then nat_eq n (length (transcripts.calls s above) + count_by (outcome_order.is_unsent s) above + 1) else true)
-    && rises s above (if b then Some n else None) && (if b then session_conditions.none_left_open s above else true)) e;
+      && rises s above (if b then Some n else None) && (if b then session_conditions.none_left_open s above else true)) e;
   next = quiet s above k (item.Unsent t n) d refl e (ap (λ b. if b then Some n else None) e) refl;
 }
 other s above k (item.Reply t n p r) d e = record {
   test = ap (λ b. rises s above (if b then Some n else None)
-    && (if b then list_any (item_conditions.is_command_numbered n) (transcripts.calls s above) && session_conditions.none_left_open s above else true)) e;
+      && (if b then list_any (item_conditions.is_command_numbered n) (transcripts.calls s above) && session_conditions.none_left_open s above else true)) e;
   next = quiet s above k (item.Reply t n p r) d refl refl (ap (λ b. if b then Some n else None) e) refl;
 }
 other s above k (item.Read t n l p reach r) d e = record {
   test = ap (λ b. rises s above (if b then Some n else None)
-    && (if b then list_any (session_conditions.is_query_numbered n) (transcripts.calls s above) && session_conditions.none_left_open s above else true)) e;
+      && (if b then list_any (session_conditions.is_query_numbered n) (transcripts.calls s above) && session_conditions.none_left_open s above else true)) e;
   next = quiet s above k (item.Read t n l p reach r) d refl refl (ap (λ b. if b then Some n else None) e) refl;
 }
 other s above k (item.Doubt t n) d e = record {

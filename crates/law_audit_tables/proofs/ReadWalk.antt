@@ -48,11 +48,11 @@ record IsCommand (h : histories.History) (s : ℕ) (x : Item) (m : ℕ) : Type 0
 
 record IsRead (h : histories.History) (s : ℕ) (x : Item) (m q : ℕ) : Type 0 where
   walk : (ps numbers : List ℕ) (greatest : ℕ) (items : List Item) → read_walk.grow s ps numbers greatest (x ∷ items)
-    ≡ (nat_le greatest q && nat_le (read_walk.count_below m numbers) (read_walk.count_upto q ps) && read_walk.grow s ps numbers (max greatest q) items)
+      ≡ (nat_le greatest q && nat_le (read_walk.count_below m numbers) (read_walk.count_upto q ps) && read_walk.grow s ps numbers (max greatest q) items)
   below : (n : ℕ) (above : List Item) → transcripts.commands_below s n (x ∷ above) ≡ transcripts.commands_below s n above
   reads : (p : ℕ) → session_conditions.is_read_upto s p x ≡ nat_le q p
   test : (above : List Item) → session_conditions.is_growing h s above x
-    ≡ (list_all (session_conditions.is_read_upto s q) above && nat_le (transcripts.commands_below s m above) (once.dos_upto h s q))
+      ≡ (list_all (session_conditions.is_read_upto s q) above && nat_le (transcripts.commands_below s m above) (once.dos_upto h s q))
 
 data Shows (h : histories.History) (s : ℕ) (x : Item) : Type 0 where
   command : (m : ℕ) → IsCommand h s x m → Shows h s x
@@ -91,8 +91,8 @@ shows_call h s t m (call.Command name op) false e = nothing (record {
 shows_call h s t m (call.Query level name query) true e = nothing (record {
   walk = λ ps numbers greatest items. refl;
   below = λ n above.
-    one_call s n (item.Called t m (call.Query level name query)) above (m, call.Query level name query) false (ap (λ b. if b then (m, call.Query level name query) ∷ [] else []) e) refl
-    ∙ (let z : 0 + transcripts.commands_below s n above ≡ transcripts.commands_below s n above = omega arith in z);
+      one_call s n (item.Called t m (call.Query level name query)) above (m, call.Query level name query) false (ap (λ b. if b then (m, call.Query level name query) ∷ [] else []) e) refl
+      ∙ (let z : 0 + transcripts.commands_below s n above ≡ transcripts.commands_below s n above = omega arith in z);
   reads = λ p. refl;
   test = λ above. refl;
 })
@@ -113,16 +113,16 @@ shows h s (item.Read t m l q reach r) = go (nat_eq s t) refl
     go : (b : Bool) → nat_eq s t ≡ b → Shows h s x
     go true e = read m q (record {
       walk = λ ps numbers greatest items.
-        ap (λ b. if b then nat_le greatest q && nat_le (read_walk.count_below m numbers) (read_walk.count_upto q ps) && read_walk.grow s ps numbers (max greatest q) items
-        else read_walk.grow s ps numbers greatest items) e;
+          ap (λ b. if b then nat_le greatest q && nat_le (read_walk.count_below m numbers) (read_walk.count_upto q ps) && read_walk.grow s ps numbers (max greatest q) items
+          else read_walk.grow s ps numbers greatest items) e;
       below = λ n above. no_call s n x above refl;
       reads = λ p. ap (λ b. if b then nat_le q p else true) e;
       test = λ above. ap (λ b. if b then list_all (session_conditions.is_read_upto s q) above && nat_le (transcripts.commands_below s m above) (once.dos_upto h s q) else true) e;
     })
     go false e = nothing (record {
       walk = λ ps numbers greatest items.
-        ap (λ b. if b then nat_le greatest q && nat_le (read_walk.count_below m numbers) (read_walk.count_upto q ps) && read_walk.grow s ps numbers (max greatest q) items
-        else read_walk.grow s ps numbers greatest items) e;
+          ap (λ b. if b then nat_le greatest q && nat_le (read_walk.count_below m numbers) (read_walk.count_upto q ps) && read_walk.grow s ps numbers (max greatest q) items
+          else read_walk.grow s ps numbers greatest items) e;
       below = λ n above. no_call s n x above refl;
       reads = λ p. ap (λ b. if b then nat_le q p else true) e;
       test = λ above. ap (λ b. if b then list_all (session_conditions.is_read_upto s q) above && nat_le (transcripts.commands_below s m above) (once.dos_upto h s q) else true) e;

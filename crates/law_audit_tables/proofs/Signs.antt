@@ -313,7 +313,7 @@ signed_describes timeout g t a d e = record {
   size = ap (λ u. length u) (signed_is t a.0 a.1) ∙ longer (front t a.0 a.1) (back a.0 a.1) ∙ ap (λ n. suc n) (front_size t a.0 a.1 ∙ d.size) ∙ sym (longer g a);
   live = λ s. ap (λ u. signs.sign_of u s) (signed_is t a.0 a.1) ∙ signed_live timeout a.0 g t a.1 s d e;
   unended = λ s l. let k = longer g a in
-    any_next g a s ∙ ap₂ (λ f h. f || (h || false)) (d.unended s (omega (arith, k, l))) (ends_within timeout a.0 g t a.1 s d e (omega (arith, k, l)));
+      any_next g a s ∙ ap₂ (λ f h. f || (h || false)) (d.unended s (omega (arith, k, l))) (ends_within timeout a.0 g t a.1 s d e (omega (arith, k, l)));
 }
 
 -- ---- all acts

@@ -5,6 +5,7 @@ ghost use Rattle.ax_types.specs.declared.items.Item.TheVariants as item;
 ghost use Rattle.spec_script.specs.StepLines as step_lines;
 ghost use Rattle.spec_report_read.specs.ItemWords as item_words;
 ghost use Rattle.text_words.specs.Behind as behind;
+ghost use Rattle.report_read.specs.ReadAnswers as read_answers;
 
 use crate::operands::{
     arrival, number64, only_number64, pair_of_numbers, three_numbers64, two_numbers64,
@@ -35,13 +36,7 @@ fn reach(level: Level, word: &[u8]) -> Option<Option<(u64, u64)>>
     ensures { result ≡ item_words.reach_from level word.now }
 {
     match level {
-        Level::Seq => {
-            if is(word, "-") {
-                Some(None)
-            } else {
-                None
-            }
-        }
+        Level::Seq => { if is(word, "-") { Some(None) } else { None } }
         Level::Lin => Some(Some(arrival(word)?)),
     }
 }
@@ -437,15 +432,14 @@ fn made_reach(reached: Option<(NodeId, u64, u64)>, numbers: Option<(u64, u64)>) 
     })
 }
 
-#[tactic(auto, using(crate::proofs::Short::short_reach_item, crate::proofs::Short::long_reach_item))]
+#[tactic(auto, using(crate::proofs::Short::reach_parts))]
 fn reach_item(words: &[&[u8]]) -> Option<Item>
     ensures { result ≡ item_words.reach_item_from (behind.words_behind words.now) }
 {
     match words {
-        [node, arrival, session, number] => made_reach(
-            node_and_arrival(node, arrival),
-            pair_of_numbers(session, number),
-        ),
+        [node, arrival, rest @ ..] => {
+            made_reach(node_and_arrival(node, arrival), two_numbers64(rest))
+        }
         _ => None,
     }
 }
@@ -501,13 +495,23 @@ fn made_pending(number: Option<u64>, sent: Option<(End, End, PayloadKind)>) -> O
     })
 }
 
-#[tactic(auto, using(crate::proofs::Short::short_pending, crate::proofs::Short::long_pending))]
+/// The ends of a packet's way, and its kind, of three words.
+fn sent(words: &[&[u8]]) -> Option<(End, End, PayloadKind)>
+    ensures { result ≡ read_answers.sent_from (behind.words_behind words.now) }
+{
+    match words {
+        [from, to, kind] => sent_packet(from, to, kind),
+        _ => None,
+    }
+}
+
+#[tactic(auto, using(crate::proofs::Short::pending_parts))]
 fn pending(words: &[&[u8]]) -> Option<Item>
     ensures { result ≡ item_words.pending_from (behind.words_behind words.now) }
 {
-    match words {
-        [number, from, to, kind] => made_pending(number64(number), sent_packet(from, to, kind)),
-        _ => None,
+    match words.split_first() {
+        Some((number, rest)) => made_pending(number64(number), sent(rest)),
+        None => None,
     }
 }
 
