@@ -33,13 +33,13 @@ record Describes (s : ℕ) (above : List Item) (c : end_walk.Course) : Type 0 wh
 
 -- ---- the calls without an outcome
 
+kept_by : {A B : Type 0} (f : A → B) (x : A) (xs : List A) (ys : List B) (p q b : Bool) → p ≡ q → q ≡ b → map f xs ≡ ys → map f (cond p (x ∷ xs) xs) ≡ cond q (f x ∷ ys) ys
+kept_by f x xs ys p q true e g h = rw (e ∙ g) (rw g (ap (λ zs. f x ∷ zs) h))
+kept_by f x xs ys p q false e g h = rw (e ∙ g) (rw g h)
+
 filtered : {A B : Type 0} (f : A → B) (p : A → Bool) (q : B → Bool) → ((x : A) → p x ≡ q (f x)) → (xs : List A) → map f (filter p xs) ≡ filter q (map f xs)
 filtered f p q h [] = refl
-filtered f p q h (x ∷ xs) = go (q (f x)) (h x) refl
-  where
-    go : (b : Bool) → p x ≡ q (f x) → q (f x) ≡ b → map f (cond (p x) (x ∷ filter p xs) (filter p xs)) ≡ cond (q (f x)) (f x ∷ filter q (map f xs)) (filter q (map f xs))
-    go true e g = rw (e ∙ g) (rw g (ap (λ ys. f x ∷ ys) (filtered f p q h xs)))
-    go false e g = rw (e ∙ g) (rw g (filtered f p q h xs))
+filtered f p q h (x ∷ xs) = kept_by f x (filter p xs) (filter q (map f xs)) (p x) (q (f x)) (q (f x)) (h x) refl (filtered f p q h xs)
 
 left_open : (s : ℕ) (above : List Item) (c : end_walk.Course) → Describes s above c → map call_of (session_conditions.open_calls s above) ≡ end_walk.unanswered c
 left_open s above c d =
@@ -122,8 +122,7 @@ answered s m x above c o e w n d = next s x above c (end_walk.with_outcome c m) 
 -- ---- steps of the walk
 
 abbrev by_expected : histories.History → ℕ → end_walk.Course → Item → List Item → List end_walk.Call → Bool
-by_expected h s c x items (d ∷ ds) = end_walk.is_doubted s d x && end_walk.run_course h s (end_walk.with_doubt c d ds) items
-by_expected h s c x items [] = if end_walk.is_own s x then end_walk.may_stand h s c x && end_walk.run_course h s (end_walk.course_with c x) items else end_walk.run_course h s c items
+by_expected h s c x items ds = end_walk.run_item h s c x (λ k. end_walk.run_course h s k items) ds
 
 -- what the conditions say of the items below, where so many are to be in doubt
 abbrev conditions : histories.History → ℕ → List Item → ℕ → List Item → Bool
@@ -202,11 +201,14 @@ first_two true true c e = (refl, refl)
 first_two true false c e = absurd (cc)
 first_two false b c e = absurd (cc)
 
-runs : (h : histories.History) (s : ℕ) (above : List Item) (c : end_walk.Course) (ws : List (ℕ × WindowCall)) (items : List Item) → c.expected ≡ map call_of ws → Describes s above c
-    → Runs h s above c ws items
-runs h s above c [] [] e d = ap end_walk.is_none e
-runs h s above c (w ∷ ws) [] e d = ap end_walk.is_none e
-runs h s above c (w ∷ ws) (x ∷ items) e d = ap (by_expected h s c x items) e ∙ expected x
+-- what holds of the items below
+abbrev Below : histories.History → ℕ → List Item → Type 0
+Below h s items = (up : List Item) (k : end_walk.Course) (ws : List (ℕ × WindowCall)) → k.expected ≡ map call_of ws → Describes s up k → Runs h s up k ws items
+
+-- a call is expected in doubt
+expected_next : (h : histories.History) (s : ℕ) (above : List Item) (c : end_walk.Course) (w : ℕ × WindowCall) (ws : List (ℕ × WindowCall)) (x : Item) (items : List Item) → Describes s above c
+    → Below h s items → by_expected h s c x items (map call_of (w ∷ ws)) ≡ (session_conditions.are_doubted s (w ∷ ws) (x ∷ items) && conditions h s above (suc (length ws)) (x ∷ items))
+expected_next h s above c w ws x items d below_too = expected x
   where
     k : end_walk.Course
     k = end_walk.with_doubt c (call_of w) (map call_of ws)
@@ -225,7 +227,7 @@ runs h s above c (w ∷ ws) (x ∷ items) e d = ap (by_expected h s c x items) e
         next s y above c k false false [] (Some n) o n2 a (u ∙ ap (λ b. if b then Some n else None) same.0) d refl refl (append-nil c.calls) (ap (λ m. m ∷ c.outcomes) (sym (equal w.0 n same.1))) in
         let ending : session_conditions.is_ending s (suc (length ws)) above items y ≡ true = j ∙ ap (λ b. if b then nat_lt 0 (suc (length ws)) else true) same.0 ∙ some_left (length ws) in
         let left : session_conditions.left_below s (suc (length ws)) above y ≡ length ws = l ∙ ap (λ b. if b then suc (length ws) - 1 else suc (length ws)) same.0 ∙ one_less (length ws) in
-        runs h s (y ∷ above) k ws items refl next_course
+        below_too (y ∷ above) k ws refl next_course
         ∙ sym (ap₂ (λ p q. session_conditions.are_doubted s ws items && ((p && item_conditions.each_below (session_conditions.is_in_session h s) (y ∷ above) items)
         && (q && session_conditions.are_ends s (session_conditions.left_below s (suc (length ws)) above y) (y ∷ above) items))) i ending
         ∙ ap (λ m. session_conditions.are_doubted s ws items && (item_conditions.each_below (session_conditions.is_in_session h s) (y ∷ above) items && session_conditions.are_ends s m (y ∷ above) items)) left)
@@ -235,11 +237,12 @@ runs h s above c (w ∷ ws) (x ∷ items) e d = ap (by_expected h s c x items) e
     expected (item.Doubt t n) = due t n (item.Doubt t n) (session_conditions.is_doubted s w (item.Doubt t n)) refl (first_two (nat_eq s t) (nat_eq w.0 n) (transcripts.is_command w.1)) refl refl refl refl refl refl refl
     expected (item.Lost t n) = due t n (item.Lost t n) (session_conditions.is_doubted s w (item.Lost t n)) refl (first_two (nat_eq s t) (nat_eq w.0 n) (not (transcripts.is_command w.1))) refl refl refl refl refl refl refl
     expected y = refl
-runs h s above c [] (x ∷ items) e d = ap (by_expected h s c x items) e ∙ free x
-  where
-    rest : Item → List Item
-    rest y = y ∷ above
 
+-- none is expected
+free_next : (h : histories.History) (s : ℕ) (above : List Item) (c : end_walk.Course) (x : Item) (items : List Item) → c.expected ≡ [] → Describes s above c → Below h s items
+    → by_expected h s c x items [] ≡ conditions h s above 0 (x ∷ items)
+free_next h s above c x items e d below_too = free x
+  where
     free : (y : Item) → by_expected h s c y items [] ≡ conditions h s above 0 (y ∷ items)
     free (item.Opened t cl) = go (nat_eq s t) refl
       where
@@ -247,9 +250,9 @@ runs h s above c [] (x ∷ items) e d = ap (by_expected h s c x items) e ∙ fre
         y = item.Opened t cl
 
         go : (b : Bool) → nat_eq s t ≡ b → by_expected h s c y items [] ≡ conditions h s above 0 (y ∷ items)
-        go true f = stands h s above c y items f refl refl refl (runs h s (y ∷ above) (end_walk.with_opening c) [] items e
+        go true f = stands h s above c y items f refl refl refl (below_too (y ∷ above) (end_walk.with_opening c) [] e
             (next s y above c (end_walk.with_opening c) true false [] None f refl refl refl d refl refl (append-nil c.calls) refl))
-        go false f = other h s above c y items f refl refl refl (runs h s (y ∷ above) c [] items e (quiet s y above c f refl refl refl d))
+        go false f = other h s above c y items f refl refl refl (below_too (y ∷ above) c [] e (quiet s y above c f refl refl refl d))
     free (item.Called t n call) = go (nat_eq s t) refl
       where
         y : Item
@@ -257,10 +260,10 @@ runs h s above c [] (x ∷ items) e d = ap (by_expected h s c x items) e ∙ fre
 
         go : (b : Bool) → nat_eq s t ≡ b → by_expected h s c y items [] ≡ conditions h s above 0 (y ∷ items)
         go true f = stands h s above c y items f (ap (λ b. if b then session_conditions.is_open_for s above else true) f ∙ open_now s above c d) refl refl
-            (runs h s (y ∷ above) (end_walk.with_call c (n, transcripts.is_command call)) [] items e
+            (below_too (y ∷ above) (end_walk.with_call c (n, transcripts.is_command call)) [] e
             (next s y above c (end_walk.with_call c (n, transcripts.is_command call)) false false ((n, call) ∷ []) None refl refl (ap (λ b. if b then (n, call) ∷ [] else []) f) refl d refl refl refl refl))
         go false f = other h s above c y items f (ap (λ b. if b then session_conditions.is_open_for s above else true) f) refl refl
-            (runs h s (y ∷ above) c [] items e (quiet s y above c refl refl (ap (λ b. if b then (n, call) ∷ [] else []) f) refl d))
+            (below_too (y ∷ above) c [] e (quiet s y above c refl refl (ap (λ b. if b then (n, call) ∷ [] else []) f) refl d))
     free (item.Event t p prev es) = go (nat_eq s t) refl
       where
         y : Item
@@ -268,9 +271,9 @@ runs h s above c [] (x ∷ items) e d = ap (by_expected h s c x items) e ∙ fre
 
         go : (b : Bool) → nat_eq s t ≡ b → by_expected h s c y items [] ≡ conditions h s above 0 (y ∷ items)
         go true f = stands h s above c y items f (ap (λ b. if b then session_conditions.is_open_for s above else true) f ∙ open_now s above c d) refl refl
-            (runs h s (y ∷ above) c [] items e (quiet s y above c refl refl refl refl d))
+            (below_too (y ∷ above) c [] e (quiet s y above c refl refl refl refl d))
         go false f = other h s above c y items f (ap (λ b. if b then session_conditions.is_open_for s above else true) f) refl refl
-            (runs h s (y ∷ above) c [] items e (quiet s y above c refl refl refl refl d))
+            (below_too (y ∷ above) c [] e (quiet s y above c refl refl refl refl d))
     free (item.Reply t n p r) = go (nat_eq s t) refl
       where
         y : Item
@@ -278,9 +281,9 @@ runs h s above c [] (x ∷ items) e d = ap (by_expected h s c x items) e ∙ fre
 
         go : (b : Bool) → nat_eq s t ≡ b → by_expected h s c y items [] ≡ conditions h s above 0 (y ∷ items)
         go true f = stands h s above c y items f (ap (λ b. if b then session_conditions.is_open_for s above else true) f ∙ open_now s above c d) refl refl
-            (runs h s (y ∷ above) (end_walk.with_outcome c n) [] items e (answered s n y above c refl refl refl (ap (λ b. if b then Some n else None) f) d))
+            (below_too (y ∷ above) (end_walk.with_outcome c n) [] e (answered s n y above c refl refl refl (ap (λ b. if b then Some n else None) f) d))
         go false f = other h s above c y items f (ap (λ b. if b then session_conditions.is_open_for s above else true) f) refl refl
-            (runs h s (y ∷ above) c [] items e (quiet s y above c refl refl refl (ap (λ b. if b then Some n else None) f) d))
+            (below_too (y ∷ above) c [] e (quiet s y above c refl refl refl (ap (λ b. if b then Some n else None) f) d))
     free (item.Read t n l p reach r) = go (nat_eq s t) refl
       where
         y : Item
@@ -288,9 +291,9 @@ runs h s above c [] (x ∷ items) e d = ap (by_expected h s c x items) e ∙ fre
 
         go : (b : Bool) → nat_eq s t ≡ b → by_expected h s c y items [] ≡ conditions h s above 0 (y ∷ items)
         go true f = stands h s above c y items f (ap (λ b. if b then session_conditions.is_open_for s above else true) f ∙ open_now s above c d) refl refl
-            (runs h s (y ∷ above) (end_walk.with_outcome c n) [] items e (answered s n y above c refl refl refl (ap (λ b. if b then Some n else None) f) d))
+            (below_too (y ∷ above) (end_walk.with_outcome c n) [] e (answered s n y above c refl refl refl (ap (λ b. if b then Some n else None) f) d))
         go false f = other h s above c y items f (ap (λ b. if b then session_conditions.is_open_for s above else true) f) refl refl
-            (runs h s (y ∷ above) c [] items e (quiet s y above c refl refl refl (ap (λ b. if b then Some n else None) f) d))
+            (below_too (y ∷ above) c [] e (quiet s y above c refl refl refl (ap (λ b. if b then Some n else None) f) d))
     free (item.Unsent t n) = go (nat_eq s t) refl
       where
         y : Item
@@ -298,9 +301,9 @@ runs h s above c [] (x ∷ items) e d = ap (by_expected h s c x items) e ∙ fre
 
         go : (b : Bool) → nat_eq s t ≡ b → by_expected h s c y items [] ≡ conditions h s above 0 (y ∷ items)
         go true f = stands h s above c y items f (ap (λ b. if b then list_any (outcome_order.is_ended s) above else true) f ∙ d.ended) refl refl
-            (runs h s (y ∷ above) (end_walk.with_outcome c n) [] items e (answered s n y above c refl refl refl (ap (λ b. if b then Some n else None) f) d))
+            (below_too (y ∷ above) (end_walk.with_outcome c n) [] e (answered s n y above c refl refl refl (ap (λ b. if b then Some n else None) f) d))
         go false f = other h s above c y items f (ap (λ b. if b then list_any (outcome_order.is_ended s) above else true) f) refl refl
-            (runs h s (y ∷ above) c [] items e (quiet s y above c refl refl refl (ap (λ b. if b then Some n else None) f) d))
+            (below_too (y ∷ above) c [] e (quiet s y above c refl refl refl (ap (λ b. if b then Some n else None) f) d))
     free (item.Unanswered t n) = go (nat_eq s t) refl
       where
         y : Item
@@ -308,9 +311,9 @@ runs h s above c [] (x ∷ items) e d = ap (by_expected h s c x items) e ∙ fre
 
         go : (b : Bool) → nat_eq s t ≡ b → by_expected h s c y items [] ≡ conditions h s above 0 (y ∷ items)
         go true f = stands h s above c y items f refl refl refl
-            (runs h s (y ∷ above) (end_walk.with_outcome c n) [] items e (answered s n y above c refl refl refl (ap (λ b. if b then Some n else None) f) d))
+            (below_too (y ∷ above) (end_walk.with_outcome c n) [] e (answered s n y above c refl refl refl (ap (λ b. if b then Some n else None) f) d))
         go false f = other h s above c y items f refl refl refl
-            (runs h s (y ∷ above) c [] items e (quiet s y above c refl refl refl (ap (λ b. if b then Some n else None) f) d))
+            (below_too (y ∷ above) c [] e (quiet s y above c refl refl refl (ap (λ b. if b then Some n else None) f) d))
     free (item.Doubt t n) = go (nat_eq s t) refl
       where
         y : Item
@@ -323,7 +326,7 @@ runs h s above c [] (x ∷ items) e d = ap (by_expected h s c x items) e ∙ fre
             ∙ sym (ap (λ b. (true && item_conditions.each_below (session_conditions.is_in_session h s) (y ∷ above) items)
             && ((if b then nat_lt 0 0 else true) && session_conditions.are_ends s (session_conditions.left_below s 0 above y) (y ∷ above) items)) f)
         go false f = other h s above c y items f refl (ap (λ b. if b then nat_lt 0 0 else true) f) (ap (λ b. if b then 0 - 1 else 0) f)
-            (runs h s (y ∷ above) c [] items e (quiet s y above c refl refl refl (ap (λ b. if b then Some n else None) f) d))
+            (below_too (y ∷ above) c [] e (quiet s y above c refl refl refl (ap (λ b. if b then Some n else None) f) d))
     free (item.Lost t n) = go (nat_eq s t) refl
       where
         y : Item
@@ -336,7 +339,7 @@ runs h s above c [] (x ∷ items) e d = ap (by_expected h s c x items) e ∙ fre
             ∙ sym (ap (λ b. (true && item_conditions.each_below (session_conditions.is_in_session h s) (y ∷ above) items)
             && ((if b then nat_lt 0 0 else true) && session_conditions.are_ends s (session_conditions.left_below s 0 above y) (y ∷ above) items)) f)
         go false f = other h s above c y items f refl (ap (λ b. if b then nat_lt 0 0 else true) f) (ap (λ b. if b then 0 - 1 else 0) f)
-            (runs h s (y ∷ above) c [] items e (quiet s y above c refl refl refl (ap (λ b. if b then Some n else None) f) d))
+            (below_too (y ∷ above) c [] e (quiet s y above c refl refl refl (ap (λ b. if b then Some n else None) f) d))
     free (item.Ended t p how.Expired) = go (nat_eq s t) refl
       where
         y : Item
@@ -355,13 +358,13 @@ runs h s above c [] (x ∷ items) e d = ap (by_expected h s c x items) e ∙ fre
             (session_conditions.is_ending s 0 above items y) (session_conditions.are_ends s (session_conditions.left_below s 0 above y) (y ∷ above) items)
             (ap (λ b. if b then session_conditions.is_open_for s above && session_conditions.is_end_of s how.Expired (lists.at_place h p) else true) f
             ∙ ap (λ b. b && session_conditions.is_end_of s how.Expired (lists.at_place h p)) (open_now s above c d))
-            (runs h s (y ∷ above) k us items (sym (left_open s above c d)) (next s y above c k false true [] None refl f refl refl d refl refl (append-nil c.calls) refl)
+            (below_too (y ∷ above) k us (sym (left_open s above c d)) (next s y above c k false true [] None refl f refl refl d refl refl (append-nil c.calls) refl)
             ∙ sym (ap₂ (λ (b : Bool) (n : ℕ). b && (item_conditions.each_below (session_conditions.is_in_session h s) (y ∷ above) items && session_conditions.are_ends s n (y ∷ above) items))
             (ap (λ b. if b then session_conditions.are_doubted s us items else true) f) (ap (λ b. if b then length us else 0) f)))
         go false f = other h s above c y items f
             (ap (λ b. if b then session_conditions.is_open_for s above && session_conditions.is_end_of s how.Expired (lists.at_place h p) else true) f)
             (ap (λ b. if b then session_conditions.are_doubted s us items else true) f) (ap (λ b. if b then length us else 0) f)
-            (runs h s (y ∷ above) c [] items e (quiet s y above c refl f refl refl d))
+            (below_too (y ∷ above) c [] e (quiet s y above c refl f refl refl d))
     free (item.Ended t p how.Closed) = go (nat_eq s t) refl
       where
         y : Item
@@ -382,12 +385,19 @@ runs h s above c [] (x ∷ items) e d = ap (by_expected h s c x items) e ∙ fre
             (ap (λ b. if b then session_conditions.is_open_for s above && session_conditions.is_end_of s how.Closed (lists.at_place h p) else true) f
             ∙ ap (λ b. b && session_conditions.is_end_of s how.Closed (lists.at_place h p)) (open_now s above c d))
             (ap (λ b. if b then nat_eq (length us) 0 else true) f ∙ none_open us ∙ ap end_walk.is_none (left_open s above c d))
-            (runs h s (y ∷ above) k [] items refl (next s y above c k false true [] None refl f refl refl d refl refl (append-nil c.calls) refl))
+            (below_too (y ∷ above) k [] refl (next s y above c k false true [] None refl f refl refl d refl refl (append-nil c.calls) refl))
         go false f = other h s above c y items f
             (ap (λ b. if b then session_conditions.is_open_for s above && session_conditions.is_end_of s how.Closed (lists.at_place h p) else true) f)
             (ap (λ b. if b then nat_eq (length us) 0 else true) f) refl
-            (runs h s (y ∷ above) c [] items e (quiet s y above c refl f refl refl d))
-    free y = other h s above c y items refl refl refl refl (runs h s (y ∷ above) c [] items e (quiet s y above c refl refl refl refl d))
+            (below_too (y ∷ above) c [] e (quiet s y above c refl f refl refl d))
+    free y = other h s above c y items refl refl refl refl (below_too (y ∷ above) c [] e (quiet s y above c refl refl refl refl d))
+
+runs : (h : histories.History) (s : ℕ) (above : List Item) (c : end_walk.Course) (ws : List (ℕ × WindowCall)) (items : List Item) → c.expected ≡ map call_of ws → Describes s above c
+    → Runs h s above c ws items
+runs h s above c [] [] e d = ap end_walk.is_none e
+runs h s above c (w ∷ ws) [] e d = ap end_walk.is_none e
+runs h s above c (w ∷ ws) (x ∷ items) e d = ap (by_expected h s c x items) e ∙ expected_next h s above c w ws x items d (λ up k us f g. runs h s up k us items f g)
+runs h s above c [] (x ∷ items) e d = ap (by_expected h s c x items) e ∙ free_next h s above c x items e d (λ up k us f g. runs h s up k us items f g)
 
 pub ends_are_walked : laws.EndsAreWalked
 ends_are_walked h s items = runs h s [] end_walk.nothing_yet [] items refl (record { opened = refl; ended = refl; calls = refl; outcomes = λ n. refl })

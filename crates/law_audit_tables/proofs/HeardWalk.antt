@@ -256,37 +256,48 @@ Hears h s above rest items =
     heard_walk.hears s rest items
     ≡ (same_values.begins same_values.is_same_heard (heard.heard s items) rest && item_conditions.each_below (session_conditions.is_after_events h s) above items)
 
-all_heard : (h : histories.History) (s : ℕ) (above : List Item) (done rest : List histories.Heard) (items : List Item) → Stands h s above done rest → Hears h s above rest items
-all_heard h s above done rest [] k = refl
-all_heard h s above done rest (x ∷ items) k = go (shows h s x)
+-- what holds of the items below
+abbrev Below : histories.History → ℕ → List Item → List Item → Type 0
+Below h s up items = (done rest : List histories.Heard) → Stands h s up done rest → Hears h s up rest items
+
+at_batch : (h : histories.History) (s : ℕ) (above : List Item) (done rest : List histories.Heard) (x : Item) (items : List Item) (e : histories.Heard) → Stands h s above done rest → IsBatch h s x e
+    → Below h s (x ∷ above) items → Hears h s above rest (x ∷ items)
+at_batch h s above done [] x items e k n next =
+    n.walk [] items
+    ∙ sym (ap (λ (es : List histories.Heard). same_values.begins same_values.is_same_heard es []
+    && (session_conditions.is_after_events h s above x && item_conditions.each_below (session_conditions.is_after_events h s) (x ∷ above) items)) (heard_next s x items (e ∷ []) n.heard))
+at_batch h s above done (f ∷ rest) x items e k n next =
+    n.walk (f ∷ rest) items ∙ matched (same_values.is_same_heard e f) refl
+    ∙ regroup (same_values.is_same_heard e f) (same_values.begins same_values.is_same_heard (heard.heard s items) rest) below
+    ∙ sym (ap₂ (λ (es : List histories.Heard) (b : Bool). same_values.begins same_values.is_same_heard es (f ∷ rest) && (b && below)) (heard_next s x items (e ∷ []) n.heard) (n.test above))
   where
     below : Bool
     below = item_conditions.each_below (session_conditions.is_after_events h s) (x ∷ above) items
 
-    go : Shows h s x → Hears h s above rest (x ∷ items)
-    go (nothing n) =
-        n.walk rest items ∙ all_heard h s (x ∷ above) done rest items (still h s x above done rest n.heard k)
-        ∙ sym (ap₂ (λ (es : List histories.Heard) (b : Bool). same_values.begins same_values.is_same_heard es rest && (b && below)) (heard_next s x items [] n.heard) (n.test above))
-    go (response p n) =
-        n.walk rest items ∙ ap (λ b. heard_walk.none_upto p rest && b) (all_heard h s (x ∷ above) done rest items (still h s x above done rest n.heard k))
-        ∙ swapped (heard_walk.none_upto p rest) (same_values.begins same_values.is_same_heard (heard.heard s items) rest) below
-        ∙ sym (ap₂ (λ (es : List histories.Heard) (b : Bool). same_values.begins same_values.is_same_heard es rest && (b && below)) (heard_next s x items [] n.heard) (n.test above ∙ heard_upto h s p above done rest k))
-    go (batch e n) = at_batch rest k
-      where
-        at_batch : (rest : List histories.Heard) → Stands h s above done rest → Hears h s above rest (x ∷ items)
-        at_batch [] k =
-            n.walk [] items
-            ∙ sym (ap (λ (es : List histories.Heard). same_values.begins same_values.is_same_heard es [] && (session_conditions.is_after_events h s above x && below)) (heard_next s x items (e ∷ []) n.heard))
-        at_batch (f ∷ rest) k =
-            n.walk (f ∷ rest) items ∙ matched (same_values.is_same_heard e f) refl
-            ∙ regroup (same_values.is_same_heard e f) (same_values.begins same_values.is_same_heard (heard.heard s items) rest) below
-            ∙ sym (ap₂ (λ (es : List histories.Heard) (b : Bool). same_values.begins same_values.is_same_heard es (f ∷ rest) && (b && below)) (heard_next s x items (e ∷ []) n.heard) (n.test above))
-          where
-            matched : (b : Bool) → same_values.is_same_heard e f ≡ b
-                → (same_values.is_same_heard e f && heard_walk.hears s rest items)
-                ≡ (same_values.is_same_heard e f && (same_values.begins same_values.is_same_heard (heard.heard s items) rest && below))
-            matched true i = ap (λ b. same_values.is_same_heard e f && b) (all_heard h s (x ∷ above) (done ++ f ∷ []) rest items (heard_too h s x above done f rest e n.heard i k))
-            matched false i = ap (λ b. b && heard_walk.hears s rest items) i ∙ sym (ap (λ b. b && (same_values.begins same_values.is_same_heard (heard.heard s items) rest && below)) i)
+    matched : (b : Bool) → same_values.is_same_heard e f ≡ b
+        → (same_values.is_same_heard e f && heard_walk.hears s rest items)
+        ≡ (same_values.is_same_heard e f && (same_values.begins same_values.is_same_heard (heard.heard s items) rest && below))
+    matched true i = ap (λ b. same_values.is_same_heard e f && b) (next (done ++ f ∷ []) rest (heard_too h s x above done f rest e n.heard i k))
+    matched false i =
+        ap (λ b. b && heard_walk.hears s rest items) i
+        ∙ sym (ap (λ b. b && (same_values.begins same_values.is_same_heard (heard.heard s items) rest && below)) i)
+
+at_item : (h : histories.History) (s : ℕ) (above : List Item) (done rest : List histories.Heard) (x : Item) (items : List Item) → Stands h s above done rest → Below h s (x ∷ above) items → Shows h s x
+    → Hears h s above rest (x ∷ items)
+at_item h s above done rest x items k next (nothing n) =
+    n.walk rest items ∙ next done rest (still h s x above done rest n.heard k)
+    ∙ sym (ap₂ (λ (es : List histories.Heard) (b : Bool). same_values.begins same_values.is_same_heard es rest
+    && (b && item_conditions.each_below (session_conditions.is_after_events h s) (x ∷ above) items)) (heard_next s x items [] n.heard) (n.test above))
+at_item h s above done rest x items k next (response p n) =
+    n.walk rest items ∙ ap (λ b. heard_walk.none_upto p rest && b) (next done rest (still h s x above done rest n.heard k))
+    ∙ swapped (heard_walk.none_upto p rest) (same_values.begins same_values.is_same_heard (heard.heard s items) rest) (item_conditions.each_below (session_conditions.is_after_events h s) (x ∷ above) items)
+    ∙ sym (ap₂ (λ (es : List histories.Heard) (b : Bool). same_values.begins same_values.is_same_heard es rest
+    && (b && item_conditions.each_below (session_conditions.is_after_events h s) (x ∷ above) items)) (heard_next s x items [] n.heard) (n.test above ∙ heard_upto h s p above done rest k))
+at_item h s above done rest x items k next (batch e n) = at_batch h s above done rest x items e k n next
+
+all_heard : (h : histories.History) (s : ℕ) (above : List Item) (done rest : List histories.Heard) (items : List Item) → Stands h s above done rest → Hears h s above rest items
+all_heard h s above done rest [] k = refl
+all_heard h s above done rest (x ∷ items) k = at_item h s above done rest x items k (λ d r kept. all_heard h s (x ∷ above) d r items kept) (shows h s x)
 
 pub heard_is_walked : laws.HeardIsWalked
 heard_is_walked h s items = all_heard h s [] [] (histories.events h s) items (record { split = refl; told = tt; left = none (histories.events h s) })

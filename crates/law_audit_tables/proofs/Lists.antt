@@ -1,5 +1,6 @@
 -- Places of lists.
 use Rattle.std.proofs.Common.{◌≡◌, ℕ, zero, suc, ◌<◌, Bool, false, nat_eq, List, [], ◌∷◌, ◌++◌, Some, None, length, set, slice_get, refl, arith}
+use Rattle.std.proofs.lemmas.Bool.Decides.{nat_tests}
 use Rattle.std.proofs.lemmas.List.{length-append}
 use Rattle.ax_types.specs.Places as lists
 
@@ -14,12 +15,15 @@ get_set [] k v l = absurd (omega arith)
 get_set (x ∷ xs) zero v l = refl
 get_set (x ∷ xs) (suc k) v l = get_set xs k v (omega arith)
 
+pub suc_differs : (j k : ℕ) → nat_eq (suc j) (suc k) ≡ false → nat_eq j k ≡ false
+suc_differs j k e = grind (arith, nat_tests)
+
 pub get_other : {X : Type 0} (xs : List X) (k j : ℕ) (v : X) → nat_eq j k ≡ false → slice_get (set xs k v) j ≡ slice_get xs j
 get_other [] k j v e = refl
 get_other (x ∷ xs) zero zero v e = absurd (cc)
 get_other (x ∷ xs) zero (suc j) v e = refl
 get_other (x ∷ xs) (suc k) zero v e = refl
-get_other (x ∷ xs) (suc k) (suc j) v e = get_other xs k j v e
+get_other (x ∷ xs) (suc k) (suc j) v e = get_other xs k j v (suc_differs j k e)
 
 pub longer : {X : Type 0} (xs : List X) (x : X) → length (xs ++ x ∷ []) ≡ suc (length xs)
 longer xs x = let e = length-append xs (x ∷ []) in omega arith

@@ -38,17 +38,13 @@ AscendBeyond n ds = AllBeyond n ds × Ascend ds
 beyond_less : (m n : ℕ) (ds : once_walk.Dos) → m ≤ n → AllBeyond n ds → AllBeyond m ds
 beyond_less m n ds l a = all_since (λ d. n < d.0) (λ d. m < d.0) (λ d k. omega (arith, l, k)) ds a
 
-dos_ascend : (s done : ℕ) (h : histories.History) → AscendBeyond done (histories.dos_after s done h)
-dos_ascend s done [] = (tt, tt)
-dos_ascend s done (a ∷ h) = go a.1
+one_more : (s done time : ℕ) (h : histories.History) (x : Act) → AscendBeyond (done + 1) (histories.dos_after s (done + 1) h) → AscendBeyond done (histories.dos_after s done ((time, x) ∷ h))
+one_more s done time h x next = go x
   where
-    next : AscendBeyond (done + 1) (histories.dos_after s (done + 1) h)
-    next = dos_ascend s (done + 1) h
-
     later : AscendBeyond done (histories.dos_after s (done + 1) h)
     later = (beyond_less done (done + 1) (histories.dos_after s (done + 1) h) (omega arith) next.0, next.1)
 
-    go : (x : Act) → AscendBeyond done (histories.dos_after s done ((a.0, x) ∷ h))
+    go : (y : Act) → AscendBeyond done (histories.dos_after s done ((time, y) ∷ h))
     go (act.Do t name o) =
         by_test (AscendBeyond done) (nat_eq s t) ((done + 1, (name, o)) ∷ histories.dos_after s (done + 1) h) (histories.dos_after s (done + 1) h) (λ e. ((omega arith, later.0), next)) (λ e. later)
     go (act.Open c o) = later
@@ -56,6 +52,10 @@ dos_ascend s done (a ∷ h) = go a.1
     go (act.Close t) = later
     go (act.Expire t) = later
     go act.Nothing = later
+
+dos_ascend : (s done : ℕ) (h : histories.History) → AscendBeyond done (histories.dos_after s done h)
+dos_ascend s done [] = (tt, tt)
+dos_ascend s done (a ∷ h) = one_more s done a.0 h a.1 (dos_ascend s (done + 1) h)
 
 -- ---- counts
 
@@ -138,13 +138,13 @@ record IsCommand (h : histories.History) (s : ℕ) (x : Item) (name : List ℕ) 
   test : (above : List Item) → session_conditions.is_called_before h s above x ≡ true
 
 data Shows (h : histories.History) (s : ℕ) (x : Item) : Type 0 where
-  commit : (p : ℕ) → x ≡ item.Commit p → Shows h s x
-  command : (name : List ℕ) (op : Op) → IsCommand h s x name op → Shows h s x
-  nothing : IsNothing h s x → Shows h s x
+  shows_commit : (p : ℕ) → x ≡ item.Commit p → Shows h s x
+  shows_command : (name : List ℕ) (op : Op) → IsCommand h s x name op → Shows h s x
+  shows_nothing : IsNothing h s x → Shows h s x
 
-quiet : (h : histories.History) (s : ℕ) (x : Item) → ((commit : ℕ) (rest : once_walk.Dos) (items : List Item) → once_walk.take_effect s commit rest (x ∷ items) ≡ once_walk.take_effect s commit rest items)
+hushed : (h : histories.History) (s : ℕ) (x : Item) → ((commit : ℕ) (rest : once_walk.Dos) (items : List Item) → once_walk.take_effect s commit rest (x ∷ items) ≡ once_walk.take_effect s commit rest items)
     → transcripts.called_by s x ≡ [] → ((above : List Item) → session_conditions.is_called_before h s above x ≡ true) → Shows h s x
-quiet h s x walk e test = nothing (record {
+hushed h s x walk e test = shows_nothing (record {
   walk = walk;
   commands = λ items. commands_next s x items [] e;
   count = λ above. ap (count_by (λ c. transcripts.is_command c.1)) (calls_next s x above [] e);
@@ -164,14 +164,14 @@ shows_call h s t n (call.Command name op) = go (nat_eq s t) refl
     go : (b : Bool) → nat_eq s t ≡ b → Shows h s x
     go true e =
         let cs : transcripts.called_by s x ≡ (n, call.Command name op) ∷ [] = ap (λ b. if b then (n, call.Command name op) ∷ [] else []) e in
-        command name op (record {
+        shows_command name op (record {
           walk = λ commit rest items. ap (λ b. if b then once_walk.may_call commit rest name op && once_walk.take_effect s commit (once_walk.behind_first rest) items else once_walk.take_effect s commit rest items) e;
           commands = λ items. commands_next s x items ((n, call.Command name op) ∷ []) cs ∙ flat_map-cons once.command_of (n, call.Command name op) (transcripts.calls s items);
           count = λ above. ap (count_by (λ c. transcripts.is_command c.1)) (calls_next s x above ((n, call.Command name op) ∷ []) cs)
               ∙ (let k = count_more true (n, call.Command name op) (transcripts.calls s above) refl in omega (arith, k));
           test = λ above. refl;
         })
-    go false e = quiet h s x (λ commit rest items. ap (λ b. if b then once_walk.may_call commit rest name op && once_walk.take_effect s commit (once_walk.behind_first rest) items else once_walk.take_effect s commit rest items) e)
+    go false e = hushed h s x (λ commit rest items. ap (λ b. if b then once_walk.may_call commit rest name op && once_walk.take_effect s commit (once_walk.behind_first rest) items else once_walk.take_effect s commit rest items) e)
         (ap (λ b. if b then (n, call.Command name op) ∷ [] else []) e) (λ above. refl)
 shows_call h s t n (call.Query level name query) = go (nat_eq s t) refl
   where
@@ -181,34 +181,34 @@ shows_call h s t n (call.Query level name query) = go (nat_eq s t) refl
     go : (b : Bool) → nat_eq s t ≡ b → Shows h s x
     go true e =
         let cs : transcripts.called_by s x ≡ (n, call.Query level name query) ∷ [] = ap (λ b. if b then (n, call.Query level name query) ∷ [] else []) e in
-        nothing (record {
+        shows_nothing (record {
           walk = λ commit rest items. refl;
           commands = λ items. commands_next s x items ((n, call.Query level name query) ∷ []) cs ∙ flat_map-cons once.command_of (n, call.Query level name query) (transcripts.calls s items);
           count = λ above. ap (count_by (λ c. transcripts.is_command c.1)) (calls_next s x above ((n, call.Query level name query) ∷ []) cs)
               ∙ (let k = count_more false (n, call.Query level name query) (transcripts.calls s above) refl in omega (arith, k));
           test = λ above. refl;
         })
-    go false e = quiet h s x (λ commit rest items. refl) (ap (λ b. if b then (n, call.Query level name query) ∷ [] else []) e) (λ above. refl)
+    go false e = hushed h s x (λ commit rest items. refl) (ap (λ b. if b then (n, call.Query level name query) ∷ [] else []) e) (λ above. refl)
 
 shows : (h : histories.History) (s : ℕ) (x : Item) → Shows h s x
-shows h s (item.Commit p) = commit p refl
+shows h s (item.Commit p) = shows_commit p refl
 shows h s (item.Called t n c) = shows_call h s t n c
-shows h s (item.Leader j t) = quiet h s (item.Leader j t) (λ c r i. refl) refl (λ above. refl)
-shows h s (item.Reach j t a r m) = quiet h s (item.Reach j t a r m) (λ c r i. refl) refl (λ above. refl)
-shows h s (item.Halted j) = quiet h s (item.Halted j) (λ c r i. refl) refl (λ above. refl)
-shows h s (item.Opened r c) = quiet h s (item.Opened r c) (λ c r i. refl) refl (λ above. refl)
-shows h s (item.Event r p prev es) = quiet h s (item.Event r p prev es) (λ c r i. refl) refl (λ above. refl)
-shows h s (item.Watched c kind r p v) = quiet h s (item.Watched c kind r p v) (λ c r i. refl) refl (λ above. refl)
-shows h s (item.Reply r m p q) = quiet h s (item.Reply r m p q) (λ c r i. refl) refl (λ above. refl)
-shows h s (item.Read r m l p reach q) = quiet h s (item.Read r m l p reach q) (λ c r i. refl) refl (λ above. refl)
-shows h s (item.Ended r p way) = quiet h s (item.Ended r p way) (λ c r i. refl) refl (λ above. refl)
-shows h s (item.Doubt r m) = quiet h s (item.Doubt r m) (λ c r i. refl) refl (λ above. refl)
-shows h s (item.Lost r m) = quiet h s (item.Lost r m) (λ c r i. refl) refl (λ above. refl)
-shows h s (item.Unsent r m) = quiet h s (item.Unsent r m) (λ c r i. refl) refl (λ above. refl)
-shows h s (item.Unanswered r m) = quiet h s (item.Unanswered r m) (λ c r i. refl) refl (λ above. refl)
-shows h s (item.Listed count) = quiet h s (item.Listed count) (λ c r i. refl) refl (λ above. refl)
-shows h s (item.Pending m from to kind) = quiet h s (item.Pending m from to kind) (λ c r i. refl) refl (λ above. refl)
-shows h s (item.Skip reason) = quiet h s (item.Skip reason) (λ c r i. refl) refl (λ above. refl)
+shows h s (item.Leader j t) = hushed h s (item.Leader j t) (λ c r i. refl) refl (λ above. refl)
+shows h s (item.Reach j t a r m) = hushed h s (item.Reach j t a r m) (λ c r i. refl) refl (λ above. refl)
+shows h s (item.Halted j) = hushed h s (item.Halted j) (λ c r i. refl) refl (λ above. refl)
+shows h s (item.Opened r c) = hushed h s (item.Opened r c) (λ c r i. refl) refl (λ above. refl)
+shows h s (item.Event r p prev es) = hushed h s (item.Event r p prev es) (λ c r i. refl) refl (λ above. refl)
+shows h s (item.Watched c kind r p v) = hushed h s (item.Watched c kind r p v) (λ c r i. refl) refl (λ above. refl)
+shows h s (item.Reply r m p q) = hushed h s (item.Reply r m p q) (λ c r i. refl) refl (λ above. refl)
+shows h s (item.Read r m l p reach q) = hushed h s (item.Read r m l p reach q) (λ c r i. refl) refl (λ above. refl)
+shows h s (item.Ended r p way) = hushed h s (item.Ended r p way) (λ c r i. refl) refl (λ above. refl)
+shows h s (item.Doubt r m) = hushed h s (item.Doubt r m) (λ c r i. refl) refl (λ above. refl)
+shows h s (item.Lost r m) = hushed h s (item.Lost r m) (λ c r i. refl) refl (λ above. refl)
+shows h s (item.Unsent r m) = hushed h s (item.Unsent r m) (λ c r i. refl) refl (λ above. refl)
+shows h s (item.Unanswered r m) = hushed h s (item.Unanswered r m) (λ c r i. refl) refl (λ above. refl)
+shows h s (item.Listed count) = hushed h s (item.Listed count) (λ c r i. refl) refl (λ above. refl)
+shows h s (item.Pending m from to kind) = hushed h s (item.Pending m from to kind) (λ c r i. refl) refl (λ above. refl)
+shows h s (item.Skip reason) = hushed h s (item.Skip reason) (λ c r i. refl) refl (λ above. refl)
 
 -- ---- a commit that covers an act that was not called
 
@@ -228,14 +228,16 @@ some_left : (commit : ℕ) (rest : once_walk.Dos) → once_walk.is_before commit
 some_left commit [] e = absurd (cc)
 some_left commit (d ∷ rest) e = refl
 
+late : (h : histories.History) (s commit : ℕ) (rest : once_walk.Dos) (x : Item) (items : List Item) → once_walk.is_before commit rest ≡ false
+    → ((m : ℕ) → once_walk.is_before m rest ≡ false → once_walk.take_effect s m rest items ≡ false) → Shows h s x → once_walk.take_effect s commit rest (x ∷ items) ≡ false
+late h s commit rest x items e below (shows_commit p is) = ap (λ y. once_walk.take_effect s commit rest (y ∷ items)) is ∙ below (max commit p) (reached_more commit p rest e)
+late h s commit rest x items e below (shows_command name op c) =
+    c.walk commit rest items ∙ ap (λ b. b && once_walk.take_effect s commit (once_walk.behind_first rest) items) (not_called commit rest name op e)
+late h s commit rest x items e below (shows_nothing n) = n.walk commit rest items ∙ below commit e
+
 too_late : (h : histories.History) (s commit : ℕ) (rest : once_walk.Dos) (items : List Item) → once_walk.is_before commit rest ≡ false → once_walk.take_effect s commit rest items ≡ false
 too_late h s commit rest [] e = some_left commit rest e
-too_late h s commit rest (x ∷ items) e = go (shows h s x)
-  where
-    go : Shows h s x → once_walk.take_effect s commit rest (x ∷ items) ≡ false
-    go (commit p is) = ap (λ y. once_walk.take_effect s commit rest (y ∷ items)) is ∙ too_late h s (max commit p) rest items (reached_more commit p rest e)
-    go (command name op c) = c.walk commit rest items ∙ ap (λ b. b && once_walk.take_effect s commit (once_walk.behind_first rest) items) (not_called commit rest name op e)
-    go (nothing n) = n.walk commit rest items ∙ too_late h s commit rest items e
+too_late h s commit rest (x ∷ items) e = late h s commit rest x items e (λ m f. too_late h s m rest items f) (shows h s x)
 
 -- ---- all items
 
@@ -315,65 +317,70 @@ regroup true true e = refl
 regroup true false e = refl
 regroup false b e = refl
 
+-- what holds of the items below
+abbrev Below : histories.History → ℕ → List Item → Type 0
+Below h s items = (m : ℕ) (up : List Item) (done rest : once_walk.Dos) → Stands h s up done rest → once_walk.is_before m rest ≡ true → Effect h s m up rest items
+
+at_commit : (h : histories.History) (s commit p : ℕ) (above : List Item) (done rest : once_walk.Dos) (items : List Item) → Stands h s above done rest → once_walk.is_before commit rest ≡ true
+    → Below h s items → Effect h s commit above rest (item.Commit p ∷ items)
+at_commit h s commit p above done rest items k e next = go (once_walk.is_before p rest) refl
+  where
+    begins : Bool
+    begins = same_values.begins same_values.is_same_command (map (λ d. d.1) rest) (once.commands s items)
+
+    below : Bool
+    below = item_conditions.each_below (session_conditions.is_called_before h s) (item.Commit p ∷ above) items
+
+    kept : Stands h s (item.Commit p ∷ above) done rest
+    kept = record { split = k.split; enough = k.enough; exact = k.exact }
+
+    test : nat_le (once.dos_upto h s p) (called_commands s above) ≡ once_walk.is_before p rest
+    test = committed h s p above done rest k
+
+    go : (b : Bool) → once_walk.is_before p rest ≡ b → Effect h s commit above rest (item.Commit p ∷ items)
+    go true f = next (max commit p) (item.Commit p ∷ above) done rest kept (before_both commit p rest e ∙ f) ∙ ap (λ b. begins && (b && below)) (sym (test ∙ f))
+    go false f = too_late h s (max commit p) rest items (before_both commit p rest e ∙ f) ∙ sym (ap (λ b. begins && (b && below)) (test ∙ f) ∙ and_false begins)
+
+at_command : (h : histories.History) (s commit : ℕ) (above : List Item) (done rest : once_walk.Dos) (x : Item) (name : List ℕ) (op : Op) (items : List Item) → Stands h s above done rest
+    → once_walk.is_before commit rest ≡ true → IsCommand h s x name op → Below h s items → Effect h s commit above rest (x ∷ items)
+at_command h s commit above done [] x name op items k e c next =
+    let below : Bool = item_conditions.each_below (session_conditions.is_called_before h s) (x ∷ above) items in
+    let n = c.count above in
+    let m = k.enough in
+    let kept : Stands h s (x ∷ above) done [] = record { split = k.split; enough = omega (arith, n, m); exact = λ f. absurd (cc) } in
+    c.walk commit [] items ∙ next commit (x ∷ above) done [] kept refl
+    ∙ sym (ap₂ (λ (cs : List (List ℕ × Op)) (b : Bool). same_values.begins same_values.is_same_command [] cs && (b && below)) (c.commands items) (c.test above))
+at_command h s commit above done (d ∷ rest) x name op items k e c next =
+    let below : Bool = item_conditions.each_below (session_conditions.is_called_before h s) (x ∷ above) items in
+    let n = c.count above in
+    let m = k.exact refl in
+    let l = length-append done (d ∷ []) in
+    let split : histories.dos h s ≡ (done ++ d ∷ []) ++ rest = k.split ∙ sym (append_assoc done (d ∷ []) rest) in
+    let kept : Stands h s (x ∷ above) (done ++ d ∷ []) rest = record { split = split; enough = omega (arith, l, m, n); exact = λ f. omega (arith, l, m, n) } in
+    let more = next commit (x ∷ above) (done ++ d ∷ []) rest kept (before_next commit done d rest (subst Ascend k.split (dos_ascend s 0 h).1) e) in
+    c.walk commit (d ∷ rest) items
+    ∙ ap₂ (λ (b f : Bool). (same_values.is_same_command d.1 (name, op) && b) && f) e more
+    ∙ regroup (same_values.is_same_command d.1 (name, op)) (same_values.begins same_values.is_same_command (map (λ y. y.1) rest) (once.commands s items)) below
+    ∙ sym (ap₂ (λ (cs : List (List ℕ × Op)) (b : Bool). same_values.begins same_values.is_same_command (d.1 ∷ map (λ y. y.1) rest) cs && (b && below)) (c.commands items) (c.test above))
+
+at_item : (h : histories.History) (s commit : ℕ) (above : List Item) (done rest : once_walk.Dos) (x : Item) (items : List Item) → Stands h s above done rest → once_walk.is_before commit rest ≡ true
+    → Below h s items → Shows h s x → Effect h s commit above rest (x ∷ items)
+at_item h s commit above done rest x items k e next (shows_commit p is) = subst (λ y. Effect h s commit above rest (y ∷ items)) (sym is) (at_commit h s commit p above done rest items k e next)
+at_item h s commit above done rest x items k e next (shows_command name op c) = at_command h s commit above done rest x name op items k e c next
+at_item h s commit above done rest x items k e next (shows_nothing n) =
+    let kept : Stands h s (x ∷ above) done rest = record {
+      split = k.split;
+      enough = let m = n.count above in let l = k.enough in omega (arith, m, l);
+      exact = λ f. k.exact f ∙ sym (n.count above);
+    } in
+    n.walk commit rest items ∙ next commit (x ∷ above) done rest kept e
+    ∙ sym (ap₂ (λ (cs : List (List ℕ × Op)) (b : Bool). same_values.begins same_values.is_same_command (map (λ d. d.1) rest) cs
+    && (b && item_conditions.each_below (session_conditions.is_called_before h s) (x ∷ above) items)) (n.commands items) (n.test above))
+
 effects : (h : histories.History) (s commit : ℕ) (above : List Item) (done rest : once_walk.Dos) (items : List Item) → Stands h s above done rest
     → once_walk.is_before commit rest ≡ true → Effect h s commit above rest items
 effects h s commit above done rest [] k e = no_more rest
-effects h s commit above done rest (x ∷ items) k e = go (shows h s x)
-  where
-    go : Shows h s x → Effect h s commit above rest (x ∷ items)
-    go (commit p is) = subst (λ y. Effect h s commit above rest (y ∷ items)) (sym is) (at_commit (once_walk.is_before p rest) refl)
-      where
-        begins : Bool
-        begins = same_values.begins same_values.is_same_command (map (λ d. d.1) rest) (once.commands s items)
-
-        below : Bool
-        below = item_conditions.each_below (session_conditions.is_called_before h s) (item.Commit p ∷ above) items
-
-        kept : Stands h s (item.Commit p ∷ above) done rest
-        kept = record { split = k.split; enough = k.enough; exact = k.exact }
-
-        test : nat_le (once.dos_upto h s p) (called_commands s above) ≡ once_walk.is_before p rest
-        test = committed h s p above done rest k
-
-        at_commit : (b : Bool) → once_walk.is_before p rest ≡ b → Effect h s commit above rest (item.Commit p ∷ items)
-        at_commit true f =
-            effects h s (max commit p) (item.Commit p ∷ above) done rest items kept (before_both commit p rest e ∙ f)
-            ∙ ap (λ b. begins && (b && below)) (sym (test ∙ f))
-        at_commit false f =
-            too_late h s (max commit p) rest items (before_both commit p rest e ∙ f)
-            ∙ sym (ap (λ b. begins && (b && below)) (test ∙ f) ∙ and_false begins)
-    go (command name op c) = at_command done rest k e
-      where
-        below : Bool
-        below = item_conditions.each_below (session_conditions.is_called_before h s) (x ∷ above) items
-
-        at_command : (done rest : once_walk.Dos) → Stands h s above done rest → once_walk.is_before commit rest ≡ true → Effect h s commit above rest (x ∷ items)
-        at_command done [] k e =
-            let n = c.count above in
-            let m = k.enough in
-            let kept : Stands h s (x ∷ above) done [] = record { split = k.split; enough = omega (arith, n, m); exact = λ f. absurd (cc) } in
-            c.walk commit [] items ∙ effects h s commit (x ∷ above) done [] items kept refl
-            ∙ sym (ap₂ (λ (cs : List (List ℕ × Op)) (b : Bool). same_values.begins same_values.is_same_command [] cs && (b && below)) (c.commands items) (c.test above))
-        at_command done (d ∷ rest) k e =
-            let n = c.count above in
-            let m = k.exact refl in
-            let l = length-append done (d ∷ []) in
-            let split : histories.dos h s ≡ (done ++ d ∷ []) ++ rest = k.split ∙ sym (append_assoc done (d ∷ []) rest) in
-            let kept : Stands h s (x ∷ above) (done ++ d ∷ []) rest = record { split = split; enough = omega (arith, l, m, n); exact = λ f. omega (arith, l, m, n) } in
-            let next = effects h s commit (x ∷ above) (done ++ d ∷ []) rest items kept (before_next commit done d rest (subst Ascend k.split (dos_ascend s 0 h).1) e) in
-            c.walk commit (d ∷ rest) items
-            ∙ ap₂ (λ (b f : Bool). (same_values.is_same_command d.1 (name, op) && b) && f) e next
-            ∙ regroup (same_values.is_same_command d.1 (name, op)) (same_values.begins same_values.is_same_command (map (λ y. y.1) rest) (once.commands s items)) below
-            ∙ sym (ap₂ (λ (cs : List (List ℕ × Op)) (b : Bool). same_values.begins same_values.is_same_command (d.1 ∷ map (λ y. y.1) rest) cs && (b && below)) (c.commands items) (c.test above))
-    go (nothing n) =
-        let kept : Stands h s (x ∷ above) done rest = record {
-          split = k.split;
-          enough = let m = n.count above in let l = k.enough in omega (arith, m, l);
-          exact = λ f. k.exact f ∙ sym (n.count above);
-        } in
-        n.walk commit rest items ∙ effects h s commit (x ∷ above) done rest items kept e
-        ∙ sym (ap₂ (λ (cs : List (List ℕ × Op)) (b : Bool). same_values.begins same_values.is_same_command (map (λ d. d.1) rest) cs
-        && (b && item_conditions.each_below (session_conditions.is_called_before h s) (x ∷ above) items)) (n.commands items) (n.test above))
+effects h s commit above done rest (x ∷ items) k e = at_item h s commit above done rest x items k e (λ m up d r kept f. effects h s m up d r items kept f) (shows h s x)
 
 pub once_is_walked : laws.OnceIsWalked
 once_is_walked h s items = effects h s 0 [] [] (histories.dos h s) items

@@ -322,21 +322,24 @@ behind_test : (t d e : Bool) → (t ≡ true → d ≡ e) → (t && d) ≡ (t &&
 behind_test true d e k = k refl
 behind_test false d e k = refl
 
-in_order_from : (s : ℕ) (above : List Item) (k : outcome_walk.Known) (items : List Item) → Describes s above k
-    → outcome_walk.are_in_order s k items ≡ item_conditions.each_below (session_conditions.is_in_order s) above items
+abbrev in_order : ℕ → List Item → List Item → Bool
+in_order s above items = item_conditions.each_below (session_conditions.is_in_order s) above items
+
+one_item : (s : ℕ) (above : List Item) (k : outcome_walk.Known) (x : Item) (items : List Item) → Describes s above k
+    → ((j : outcome_walk.Known) → Describes s (x ∷ above) j → outcome_walk.are_in_order s j items ≡ in_order s (x ∷ above) items) → (b : Bool) → outcome_walk.is_own s x ≡ b
+    → (if b then outcome_walk.may_follow k x && outcome_walk.are_in_order s (outcome_walk.known_with k x) items else outcome_walk.are_in_order s k items)
+    ≡ (session_conditions.is_in_order s above x && in_order s (x ∷ above) items)
+one_item s above k x items d next true e =
+    behind_test (outcome_walk.may_follow k x) (outcome_walk.are_in_order s (outcome_walk.known_with k x) items) (in_order s (x ∷ above) items)
+    (λ f. next (outcome_walk.known_with k x) (own_next s above k x d e f))
+    ∙ ap (λ b. b && in_order s (x ∷ above) items) (sym (same_test s above k x d e))
+one_item s above k x items d next false e =
+    let o = other s above k x d e in
+    next k o.next ∙ ap (λ b. b && in_order s (x ∷ above) items) (sym o.test)
+
+in_order_from : (s : ℕ) (above : List Item) (k : outcome_walk.Known) (items : List Item) → Describes s above k → outcome_walk.are_in_order s k items ≡ in_order s above items
 in_order_from s above k [] d = refl
-in_order_from s above k (x ∷ items) d = go (outcome_walk.is_own s x) refl
-  where
-    go : (b : Bool) → outcome_walk.is_own s x ≡ b
-        → (if b then outcome_walk.may_follow k x && outcome_walk.are_in_order s (outcome_walk.known_with k x) items else outcome_walk.are_in_order s k items)
-        ≡ (session_conditions.is_in_order s above x && item_conditions.each_below (session_conditions.is_in_order s) (x ∷ above) items)
-    go true e =
-        behind_test (outcome_walk.may_follow k x) (outcome_walk.are_in_order s (outcome_walk.known_with k x) items) (item_conditions.each_below (session_conditions.is_in_order s) (x ∷ above) items)
-        (λ f. in_order_from s (x ∷ above) (outcome_walk.known_with k x) items (own_next s above k x d e f))
-        ∙ ap (λ b. b && item_conditions.each_below (session_conditions.is_in_order s) (x ∷ above) items) (sym (same_test s above k x d e))
-    go false e =
-        let o = other s above k x d e in
-        in_order_from s (x ∷ above) k items o.next ∙ ap (λ b. b && item_conditions.each_below (session_conditions.is_in_order s) (x ∷ above) items) (sym o.test)
+in_order_from s above k (x ∷ items) d = one_item s above k x items d (λ j f. in_order_from s (x ∷ above) j items f) (outcome_walk.is_own s x) refl
 
 pub outcomes_are_walked : laws.OutcomesAreWalked
 outcomes_are_walked s items = in_order_from s [] outcome_walk.nothing_known items (record {

@@ -139,37 +139,38 @@ greater a q p = go (nat_le q p) refl (nat_le a p) refl
     go true e false f = grind (arith, nat_tests)
     go false e c f = grind (arith, nat_tests)
 
-all_grow : (h : histories.History) (s : ℕ) (above : List Item) (numbers : List ℕ) (greatest : ℕ) (items : List Item) → Describes s above numbers greatest
-    → read_walk.grow s (places h s) numbers greatest items ≡ item_conditions.each_below (session_conditions.is_growing h s) above items
-all_grow h s above numbers greatest [] d = refl
-all_grow h s above numbers greatest (x ∷ items) d = go (shows h s x)
-  where
-    below : Bool
-    below = item_conditions.each_below (session_conditions.is_growing h s) (x ∷ above) items
+abbrev Grows : histories.History → ℕ → List Item → List ℕ → ℕ → List Item → Type 0
+Grows h s above numbers greatest items = read_walk.grow s (places h s) numbers greatest items ≡ item_conditions.each_below (session_conditions.is_growing h s) above items
 
-    go : Shows h s x → read_walk.grow s (places h s) numbers greatest (x ∷ items) ≡ (session_conditions.is_growing h s above x && below)
-    go (nothing n) =
-        n.walk (places h s) numbers greatest items
-        ∙ all_grow h s (x ∷ above) numbers greatest items (record {
-          below = λ m. n.below m above ∙ d.below m;
-          reads = λ p. ap (λ b. b && list_all (session_conditions.is_read_upto s p) above) (n.reads p) ∙ d.reads p;
-        })
-        ∙ sym (ap (λ b. b && below) (n.test above))
-    go (command m n) =
-        n.walk (places h s) numbers greatest items
-        ∙ all_grow h s (x ∷ above) (m ∷ numbers) greatest items (record {
-          below = λ k. n.below k above ∙ ap (λ j. cond (nat_lt m k) 1 0 + j) (d.below k) ∙ sym (sum_by-cons (λ j. cond (nat_lt j k) 1 0) m numbers);
-          reads = λ p. ap (λ b. b && list_all (session_conditions.is_read_upto s p) above) (n.reads p) ∙ d.reads p;
-        })
-        ∙ sym (ap (λ b. b && below) (n.test above))
-    go (read m q n) =
-        n.walk (places h s) numbers greatest items
-        ∙ ap (λ b. nat_le greatest q && nat_le (read_walk.count_below m numbers) (read_walk.count_upto q (places h s)) && b)
-        (all_grow h s (x ∷ above) numbers (max greatest q) items (record {
-          below = λ k. n.below k above ∙ d.below k;
-          reads = λ p. ap₂ (λ b c. b && c) (n.reads p) (d.reads p) ∙ greater greatest q p;
-        }))
-        ∙ sym (ap (λ b. b && below) (n.test above ∙ ap₂ (λ b c. b && c) (d.reads q) (ap₂ (λ j k. nat_le j k) (d.below m) (places_upto q (histories.dos h s)))))
+one_item : (h : histories.History) (s : ℕ) (above : List Item) (numbers : List ℕ) (greatest : ℕ) (x : Item) (items : List Item) → Describes s above numbers greatest
+    → ((ns : List ℕ) (g : ℕ) → Describes s (x ∷ above) ns g → Grows h s (x ∷ above) ns g items) → Shows h s x → Grows h s above numbers greatest (x ∷ items)
+one_item h s above numbers greatest x items d next (nothing n) =
+    n.walk (places h s) numbers greatest items
+    ∙ next numbers greatest (record {
+      below = λ m. n.below m above ∙ d.below m;
+      reads = λ p. ap (λ b. b && list_all (session_conditions.is_read_upto s p) above) (n.reads p) ∙ d.reads p;
+    })
+    ∙ sym (ap (λ b. b && item_conditions.each_below (session_conditions.is_growing h s) (x ∷ above) items) (n.test above))
+one_item h s above numbers greatest x items d next (command m n) =
+    n.walk (places h s) numbers greatest items
+    ∙ next (m ∷ numbers) greatest (record {
+      below = λ k. n.below k above ∙ ap (λ j. cond (nat_lt m k) 1 0 + j) (d.below k) ∙ sym (sum_by-cons (λ j. cond (nat_lt j k) 1 0) m numbers);
+      reads = λ p. ap (λ b. b && list_all (session_conditions.is_read_upto s p) above) (n.reads p) ∙ d.reads p;
+    })
+    ∙ sym (ap (λ b. b && item_conditions.each_below (session_conditions.is_growing h s) (x ∷ above) items) (n.test above))
+one_item h s above numbers greatest x items d next (read m q n) =
+    n.walk (places h s) numbers greatest items
+    ∙ ap (λ b. nat_le greatest q && nat_le (read_walk.count_below m numbers) (read_walk.count_upto q (places h s)) && b)
+    (next numbers (max greatest q) (record {
+      below = λ k. n.below k above ∙ d.below k;
+      reads = λ p. ap₂ (λ b c. b && c) (n.reads p) (d.reads p) ∙ greater greatest q p;
+    }))
+    ∙ sym (ap (λ b. b && item_conditions.each_below (session_conditions.is_growing h s) (x ∷ above) items)
+    (n.test above ∙ ap₂ (λ b c. b && c) (d.reads q) (ap₂ (λ j k. nat_le j k) (d.below m) (places_upto q (histories.dos h s)))))
+
+all_grow : (h : histories.History) (s : ℕ) (above : List Item) (numbers : List ℕ) (greatest : ℕ) (items : List Item) → Describes s above numbers greatest → Grows h s above numbers greatest items
+all_grow h s above numbers greatest [] d = refl
+all_grow h s above numbers greatest (x ∷ items) d = one_item h s above numbers greatest x items d (λ ns g k. all_grow h s (x ∷ above) ns g items k) (shows h s x)
 
 pub reads_are_walked : laws.ReadsAreWalked
 reads_are_walked h s items = all_grow h s [] [] 0 items (record { below = λ n. refl; reads = λ p. none p })

@@ -14,7 +14,7 @@ use Rattle.law_told.proofs.Growth.{live_grown}
 use Rattle.law_told.proofs.Named.{live_now, live_end, opened_within}
 use Rattle.law_audit_tables.specs.Signs as signs
 use Rattle.law_audit_tables.specs.TablesFound as laws
-use Rattle.law_audit_tables.proofs.Lists.{at_past, get_set, get_other, longer}
+use Rattle.law_audit_tables.proofs.Lists.{at_past, get_set, get_other, longer, suc_differs}
 
 -- ---- tests
 
@@ -181,7 +181,7 @@ with_same t (suc k) v e = ap signs.joined (get_set t k v (there t k e))
 with_other : (t : signs.Signs) (s r : ℕ) (v : Option ℕ) → nat_eq s r ≡ false → signs.sign_of (signs.with_sign t r v) s ≡ signs.sign_of t s
 with_other t s zero v e = refl
 with_other t zero (suc k) v e = refl
-with_other t (suc j) (suc k) v e = ap signs.joined (get_other t k j v e)
+with_other t (suc j) (suc k) v e = ap signs.joined (get_other t k j v (suc_differs j k e))
 
 -- a session that was there before: whether it is live, and its sign
 live_next : (g : histories.History) (a : ℕ × Act) (s : ℕ) → s ≤ length g

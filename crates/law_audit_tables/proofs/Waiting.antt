@@ -68,7 +68,7 @@ one_item items x more = refl
 waiting_from : (items ys : List Item) → Rattle.std.specs.Prelude.flat_map (audits.waiting_in items) ys ≡ filter (waits items) (filter_map report_items.called_of ys)
 waiting_from items [] = refl
 waiting_from items (y ∷ ys) =
-    flat_map-cons (audits.waiting_in items) y ys ∙ ap (λ as. audits.waiting_in items y ++ as) (waiting_from items ys) ∙ one_item items y (filter_map report_items.called_of ys)
+    flat_map-cons (audits.waiting_in items) y ys ∙ ap (λ cs. audits.waiting_in items y ++ cs) (waiting_from items ys) ∙ one_item items y (filter_map report_items.called_of ys)
 
 pub waiting_is_told : laws.WaitingIsTold
 waiting_is_told items = waiting_from items items

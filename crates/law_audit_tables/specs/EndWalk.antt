@@ -99,10 +99,11 @@ is_own s (item.Unsent t n) = nat_eq s t
 is_own s (item.Unanswered t n) = nat_eq s t
 is_own s x = false
 
+-- one item, and what the walk finds of the items below it
+abbrev pub run_item : histories.History → ℕ → Course → Item → (Course → Bool) → List Call → Bool
+run_item h s c x below (d ∷ ds) = is_doubted s d x && below (with_doubt c d ds)
+run_item h s c x below [] = if is_own s x then may_stand h s c x && below (course_with c x) else below c
+
 abbrev pub run_course : histories.History → ℕ → Course → List Item → Bool
 run_course h s c [] = is_none c.expected
-run_course h s c (x ∷ items) = by_expected c.expected
-  where
-    by_expected : List Call → Bool
-    by_expected (d ∷ ds) = is_doubted s d x && run_course h s (with_doubt c d ds) items
-    by_expected [] = if is_own s x then may_stand h s c x && run_course h s (course_with c x) items else run_course h s c items
+run_course h s c (x ∷ items) = run_item h s c x (λ k. run_course h s k items) c.expected
