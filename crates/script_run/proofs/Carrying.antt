@@ -148,6 +148,12 @@ script_ends w lines after end f = by_end end (f w (runs.works_of lines) [] (subs
     by_end ends.Done h = at_end w (runs.works_of lines) [] after ends.Done h (inl refl) refl
     by_end (ends.StepLimit line) h = at_end w (runs.works_of lines) h.rest after (ends.StepLimit line) h.so_far (inr h.full) (ap ends.StepLimit (sym h.at) ∙ ap runs.end_at (sym h.next))
 
+-- the same, where the lines and the run before them are known by equations
+pub script_ends_from : (w : worlds.World) (lines given : List (ℕ × Line)) (before after : carrying.RunSoFar) (end : RunEnd) → before ≡ carrying.before_steps w → given ≡ lines
+    → carrying.RunsLines given before after end → carrying.IsRunToEnd w (runs.works_of lines) after end
+script_ends_from w lines given before after end begins same f =
+    script_ends w lines after end (subst (λ ls. carrying.RunsLines ls (carrying.before_steps w) after end) same (subst (λ b. carrying.RunsLines given b after end) begins f))
+
 -- ---- how many steps were made
 
 pub full_at : (n : ℕ) → n ≤ MAX_STEPS → MAX_STEPS ≤ n → n ≡ MAX_STEPS
