@@ -1,10 +1,9 @@
 -- How a script's jobs are carried out, one behind the other.
-use Rattle.std.proofs.Common.{◌≡◌, ℕ, ◌≤◌, List, [], ◌∷◌, ◌++◌, length, map, refl, ap, sym, ◌∙◌, subst, append_assoc, append-nil}
+use Rattle.std.proofs.Common.{◌≡◌, ℕ, ◌≤◌, List, [], ◌∷◌, ◌++◌, length, refl, ap, sym, ◌∙◌, subst, append_assoc, append-nil}
 use Rattle.std.proofs.Common.{inl, inr, arith, suc, ◌<◌, ◌+◌, drop, slice_index_or}
 use Rattle.std.proofs.lemmas.List.{drop_more, drop_all}
-use Rattle.std.specs.Prelude.{◌⊎◌, Bool, true, false, Option, Some, None, flat_map, Result, Ok, Err, IfOk}
+use Rattle.std.specs.Prelude.{◌⊎◌, Bool, true, false, Some, None, Result, Ok, Err, IfOk}
 use Rattle.ax_types.specs.declared.limits.TheConstants.{MAX_STEPS}
-use Rattle.ax_types.specs.declared.items.Item.{Item}
 use Rattle.ax_types.specs.declared.scripts.Line.{Line}
 use Rattle.ax_types.specs.declared.scripts.RunEnd.{RunEnd}
 use Rattle.ax_types.specs.declared.scripts.RunEnd.TheVariants as ends

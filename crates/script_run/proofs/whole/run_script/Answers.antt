@@ -1,5 +1,5 @@
 -- The whole run of a script, from the run of its lines.
-use Rattle.std.proofs.Common.{rules, ◌≡◌, ap}
+use Rattle.std.proofs.Common.{ap}
 use Rattle.script_run.specs.RunsInCode as in_code
 use Rattle.script_run.specs.ScriptRuns as script_runs
 use Rattle.script_run.proofs.Carrying as lemmas
