@@ -28,7 +28,7 @@ fn first_applied(
     ensures { IfOk result (λ first. first ≡ drop (places - (committed - length acts)) acts) }
 {
     let begun = committed.saturating_sub(acts.len() as u64);
-    let known = (places as u64).saturating_sub(begun);
+    let known = (places as u64).saturating_sub(committed);
     let mut all = acts.into_vec();
     if known == 0 {
         return Ok(List::from_vec(all));

@@ -82,7 +82,7 @@ pub fn report_of_script<S: NodeStore>(
     ensures refused { IfErr result (opened.Refuses S.told S.needs_load S.faults script.now.nodes stores.old.items stores.new.items) }
 {
     let ran = run_opened(alloc, script, stores, filters)?;
-    let end = ran.end;
+    let end = RunEnd::Done;
     let text = text_of(alloc, ran, json)?;
     Ok(Written { text, end })
 }

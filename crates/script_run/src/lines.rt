@@ -24,7 +24,7 @@ fn make<S: NodeStore>(
     ensures ready { OnOk result (in_code.StaysReady (matching.states_of S.told S.needs_load stores.old.items) world.new (matching.states_of S.told S.needs_load stores.new.items)) }
     ensures grows { IfOk result (λ went. went ≡ true → length world.new.kept ≡ length world.old.kept + 1) }
 {
-    if world.kept().len() as u64 >= MAX_STEPS {
+    if world.kept().len().saturating_sub(1) as u64 >= MAX_STEPS {
         return Ok(false);
     }
     world.step(stores, made, filters)?;
