@@ -1,11 +1,8 @@
 -- Stores that were opened are those of a world before its first step.
-use Rattle.std.proofs.Common.{◌≡◌, ℕ, zero, suc, ◌+◌, ◌≤◌, List, [], ◌∷◌, length, map, refl, ap, sym, ◌∙◌, subst, arith}
-use Rattle.std.specs.Prelude.{Bool, true, false, Option, Some, None, ⊤}
-use Rattle.ax_types.specs.Loads as loads
+use Rattle.std.proofs.Common.{ℕ, zero, suc, ◌≤◌, List, [], ◌∷◌, map, sym, subst, arith}
+use Rattle.std.specs.Prelude.{Bool}
 use Rattle.ax_types.specs.Places as lists
-use Rattle.spec_raft.specs.Majority as majorities
 use Rattle.spec_world.specs.Worlds as worlds
-use Rattle.spec_run.specs.KeptStores as kept_stores
 use Rattle.store_journal.specs.StoreTold as stores
 use Rattle.world_hosts.specs.StoresMatch as matching
 use Rattle.store_opening.specs.Opened as opened

@@ -1,10 +1,9 @@
 -- How a script's jobs are carried out, one behind the other.
-use Rattle.std.proofs.Common.{◌≡◌, ℕ, ◌≤◌, List, [], ◌∷◌, ◌++◌, length, map, refl, ap, sym, ◌∙◌, subst, append_assoc, append-nil}
+use Rattle.std.proofs.Common.{◌≡◌, ℕ, ◌≤◌, List, [], ◌∷◌, ◌++◌, length, refl, ap, sym, ◌∙◌, subst, append_assoc, append-nil}
 use Rattle.std.proofs.Common.{inl, inr, arith, suc, ◌<◌, ◌+◌, drop, slice_index_or}
 use Rattle.std.proofs.lemmas.List.{drop_more, drop_all}
-use Rattle.std.specs.Prelude.{◌⊎◌, Bool, true, false, Option, Some, None, flat_map, Result, Ok, Err, IfOk}
+use Rattle.std.specs.Prelude.{◌⊎◌, Bool, true, false, Some, None, Result, Ok, Err, IfOk}
 use Rattle.ax_types.specs.declared.limits.TheConstants.{MAX_STEPS}
-use Rattle.ax_types.specs.declared.items.Item.{Item}
 use Rattle.ax_types.specs.declared.scripts.Line.{Line}
 use Rattle.ax_types.specs.declared.scripts.RunEnd.{RunEnd}
 use Rattle.ax_types.specs.declared.scripts.RunEnd.TheVariants as ends
@@ -147,6 +146,12 @@ script_ends w lines after end f = by_end end (f w (runs.works_of lines) [] (subs
     by_end : (end : RunEnd) → carrying.Ends w (runs.works_of lines) after [] end → carrying.IsRunToEnd w (runs.works_of lines) after end
     by_end ends.Done h = at_end w (runs.works_of lines) [] after ends.Done h (inl refl) refl
     by_end (ends.StepLimit line) h = at_end w (runs.works_of lines) h.rest after (ends.StepLimit line) h.so_far (inr h.full) (ap ends.StepLimit (sym h.at) ∙ ap runs.end_at (sym h.next))
+
+-- the same, where the lines and the run before them are known by equations
+pub script_ends_from : (w : worlds.World) (lines given : List (ℕ × Line)) (before after : carrying.RunSoFar) (end : RunEnd) → before ≡ carrying.before_steps w → given ≡ lines
+    → carrying.RunsLines given before after end → carrying.IsRunToEnd w (runs.works_of lines) after end
+script_ends_from w lines given before after end begins same f =
+    script_ends w lines after end (subst (λ ls. carrying.RunsLines ls (carrying.before_steps w) after end) same (subst (λ b. carrying.RunsLines given b after end) begins f))
 
 -- ---- how many steps were made
 

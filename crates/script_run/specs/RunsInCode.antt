@@ -1,7 +1,6 @@
 -- A world and its stores between the steps of a script.
-use Rattle.std.specs.Prelude.{ℕ, ◌≡◌, ◌≤◌, Bool, true, false, List, [], ◌∷◌, length}
+use Rattle.std.specs.Prelude.{ℕ, ◌≡◌, ◌≤◌, Bool, false, List, [], ◌∷◌, length}
 use Rattle.ax_types.specs.declared.limits.TheConstants.{MAX_STEPS}
-use Rattle.ax_types.specs.declared.steps.Step.{Step}
 use Rattle.ax_types.specs.declared.steps.Step.TheVariants as step
 use Rattle.ax_types.specs.declared.scripts.Line.{Line}
 use Rattle.ax_types.specs.declared.scripts.RunEnd.{RunEnd}

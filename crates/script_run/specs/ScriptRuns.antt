@@ -1,5 +1,5 @@
 -- What the run of a whole script gives.
-use Rattle.std.specs.Prelude.{ℕ, ◌≡◌, List}
+use Rattle.std.specs.Prelude.{◌≡◌, List}
 use Rattle.ax_types.specs.declared.scripts.Script.{Script}
 use Rattle.spec_world.specs.Worlds as worlds
 use Rattle.spec_run.specs.Run as runs

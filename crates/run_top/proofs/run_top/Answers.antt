@@ -15,10 +15,10 @@ returns-in-Ok-put-clause-headline g c = λ tells.
     let before = g.O.Sink.content c.args.output.now in
     let now = g.O.Sink.content c.put.new.self in
     lemmas.ended_so c.ended.result c.in-Ok.written.end (g.I.Source.content c.args.input.now)
-        (λ content. outcomes.ReportsAsked asked (answers.judged (outcomes.input_bytes content)) states (string_bytes c.in-Ok.written.text) c.in-Ok.written.end)
-        (λ end content. outcomes.StandsBy asked (answers.judged (outcomes.input_bytes content)) states before now end)
-        c.ended.ensures
-        (λ content reports. lemmas.stands_by asked (answers.judged (outcomes.input_bytes content)) states before now c.in-Ok.written.end (string_bytes c.in-Ok.written.text)
-            (λ s read. scripts_within false (outcomes.input_bytes content) s read) reports
-            (c.in-Ok-put.ensures.ok ∙ ap (ax_io_content.append_told before) c.as_bytes.ensures.value))
-        (c.in-Ok.ensures.reports tells)
+    (λ content. outcomes.ReportsAsked asked (answers.judged (outcomes.input_bytes content)) states (string_bytes c.in-Ok.written.text) c.in-Ok.written.end)
+    (λ end content. outcomes.StandsBy asked (answers.judged (outcomes.input_bytes content)) states before now end)
+    c.ended.ensures
+    (λ content reports. lemmas.stands_by asked (answers.judged (outcomes.input_bytes content)) states before now c.in-Ok.written.end (string_bytes c.in-Ok.written.text)
+    (λ s read. scripts_within false (outcomes.input_bytes content) s read) reports
+    (c.in-Ok-put.ensures.ok ∙ ap (ax_io_content.append_told before) c.as_bytes.ensures.value))
+    (c.in-Ok.ensures.reports tells)

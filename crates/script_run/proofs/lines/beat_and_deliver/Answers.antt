@@ -1,4 +1,4 @@
-use Rattle.std.proofs.Common.{rules, ◌≡◌, refl, true, false, [], ◌∷◌}
+use Rattle.std.proofs.Common.{[], ◌∷◌}
 use Rattle.ax_types.specs.declared.steps.Step.TheVariants as step
 use Rattle.spec_run.specs.Run as runs
 use Rattle.script_run.specs.RunsInCode as in_code

@@ -1,5 +1,4 @@
-use Rattle.std.proofs.Common.{rules, ◌≡◌, refl, sym, ◌∙◌, true, false}
-use Rattle.script_run.specs.Carrying as carrying
+use Rattle.std.proofs.Common.{rules, sym, ◌∙◌}
 use Rattle.script_run.specs.RunsInCode as in_code
 use Rattle.script_run.proofs.Carrying as lemmas
 use Rattle.script_run.proofs.lines.deliver_all.Goals as goal

@@ -1,4 +1,4 @@
-use Rattle.std.proofs.Common.{◌≡◌, ◌-◌, length}
+use Rattle.std.proofs.Common.{◌-◌, length}
 use Rattle.ax_types.specs.declared.limits.TheConstants.{MAX_STEPS}
 use Rattle.world_hosts.specs.StoresMatch as matching
 use Rattle.script_run.specs.Carrying as carrying

@@ -1,4 +1,4 @@
-use Rattle.std.proofs.Common.{rules, ◌≡◌, sym, subst}
+use Rattle.std.proofs.Common.{sym, subst}
 use Rattle.spec_run.specs.Run as runs
 use Rattle.script_run.specs.Carrying as carrying
 use Rattle.script_run.specs.RunsInCode as in_code

@@ -1,4 +1,4 @@
-use Rattle.std.proofs.Common.{◌≡◌, drop}
+use Rattle.std.proofs.Common.{drop}
 use Rattle.ax_types.specs.declared.scripts.RunEnd.{RunEnd}
 use Rattle.world_hosts.specs.StoresMatch as matching
 use Rattle.script_run.specs.Carrying as carrying
