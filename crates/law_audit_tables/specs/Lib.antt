@@ -1,0 +1,8 @@
+pub mod Signs
+pub mod Turns
+pub mod OutcomeWalk
+pub mod OnceWalk
+pub mod HeardWalk
+pub mod ReadWalk
+pub mod EndWalk
+pub mod TablesFound

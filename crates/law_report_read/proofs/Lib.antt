@@ -1,0 +1,5 @@
+pub mod Parts
+pub mod Lines
+pub mod Reports
+pub mod Newlines
+pub mod Texts

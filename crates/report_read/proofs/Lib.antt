@@ -1,0 +1,5 @@
+pub mod Loops
+pub mod Short
+pub mod Cuts
+pub mod Bytes
+pub mod Dots
