@@ -2,6 +2,4 @@
 #![tactic(auto)]
 
 #[cfg(test)]
-mod runs;
-#[cfg(test)]
 mod sources_and_sinks;
