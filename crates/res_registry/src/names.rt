@@ -125,15 +125,6 @@ impl Touched {
         }
     }
 
-    /// Takes the name out of those of the session.
-    fn remove(&mut self, session: u64, name: &Name)
-        ensures { book_steps.SetsName self.old self.new session name.now false }
-    {
-        if let Some(names) = self.names.get_mut(&session) {
-            names.remove(name);
-        }
-    }
-
     /// Where it is told whether the resource of the name knows the session now, the session has the name exactly where it
     /// does.
     pub fn note(&mut self, session: u64, name: &Name, known: Option<bool>) -> Result<(), NoMemory>
@@ -143,7 +134,7 @@ impl Touched {
             None => Ok(()),
             Some(true) => self.add(session, name),
             Some(false) => {
-                self.remove(session, name);
+                remove_name(&mut self.names, session, name);
                 Ok(())
             }
         }
@@ -159,6 +150,15 @@ impl Touched {
             None => Names::new(self.alloc),
             Some(names) => names,
         }
+    }
+}
+
+/// Takes the name out of those of the session.
+fn remove_name(index: &mut BTreeMap<u64, Names>, session: u64, name: &Name)
+    ensures { book_steps.SetsName index.old.entries index.new.entries session name.now false }
+{
+    if let Some(names) = index.get_mut(&session) {
+        names.remove(name);
     }
 }
 

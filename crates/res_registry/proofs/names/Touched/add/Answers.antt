@@ -14,4 +14,4 @@ pub returns-in_ok-insert-in-None : goal.returns-in_ok-insert-in-None
 returns-in_ok-insert-in-None c =
     rw (← c.self.view_is)
     (SetsName-written c.self.inside.names.entries c.insert.new.self.entries c.args.session c.args.name.now true c.new-names.result c.add-in-None.new.self
-    (ap indexes.names_of (sym c.in-None.ensures.value) ∙ sym c.new-names.ensures) c.in_ok-insert-in-None.ensures.updates.0 c.in_ok-add-in-None.ensures.ok)
+    (ap indexes.names_of (sym c.in-None.ensures.value) ∙ sym c.new-names.ensures) (rw (← c.get_mut.follows.holds-at-none) c.in_ok-insert-in-None.ensures.updates.0) c.in_ok-add-in-None.ensures.ok)
