@@ -3,3 +3,4 @@ pub mod Doing
 pub mod Lifted
 pub mod Delivered
 pub mod Stepped
+pub mod StandsStep

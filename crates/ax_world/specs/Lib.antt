@@ -1,2 +1,3 @@
 pub mod OpenWorlds
 pub mod Scenes
+pub mod Standing

@@ -5,6 +5,7 @@ ghost use Rattle.spec_world.specs.Worlds as worlds;
 ghost use Rattle.world_hosts.specs.StoresMatch as matching;
 ghost use Rattle.ax_world.specs.OpenWorlds as open_worlds;
 ghost use Rattle.ax_world.specs.Scenes as scenes;
+ghost use Rattle.ax_world.specs.Standing as standing;
 
 use crate::brought::Brought;
 use crate::scene::Scene;
@@ -121,6 +122,7 @@ fn make<S: NodeStore>(
 }
 
 impl World {
+    #[tactic(auto, using(crate::proofs::StandsStep::is_reached))]
     /// A run of a cluster of 1 to 9 nodes with up to 16 clients, before its first step. A session may be ended after `timeout`
     /// units of log time without a sign (Ongaro 2014, 6.3).
     pub fn open(alloc: Global, nodes: u8, clients: u8, timeout: u64) -> Result<World, NoMemory>
@@ -129,7 +131,8 @@ impl World {
         requires clients { clients ≤ MAX_CLIENTS }
         requires low { 1 ≤ timeout }
         requires high { timeout ≤ MAX_TIMEOUT }
-        ensures { IfOk result (λ world. world ≡ open_worlds.opened nodes clients timeout) }
+        ensures opened { IfOk result (λ world. world ≡ open_worlds.opened nodes clients timeout) }
+        ensures reached { IfOk result (λ world. standing.IsReached nodes clients timeout world) }
     {
         Ok(World {
             scene: Scene::new(alloc, nodes, clients, timeout)?,
@@ -139,6 +142,7 @@ impl World {
         })
     }
 
+    #[tactic(auto, using(crate::proofs::StandsStep::leads_on))]
     /// One step. The stores are those of the nodes, as the last step left them, before the first one empty and loaded. A node or
     /// a client that is not of the cluster does nothing. After want of memory the run is spent.
     pub fn step<S: NodeStore>(
@@ -151,6 +155,10 @@ impl World {
         requires room { length self.old.kept < MAX_STEPS }
         requires stores { matching.StoresMatch self.old.world.hosts (matching.states_of S.told S.needs_load stores.old.items) }
         ensures made { matching.AreTelling (matching.states_of S.told S.needs_load stores.old.items) → OnOk result (open_worlds.IsStep self.old step.now self.new) }
+        // The headline after each step: where steps led to this run from empty stores, they lead on to one whose transcript is faithful
+        // to its history and hands out once, and whose stores keep that history.
+        ensures stands { matching.AreTelling (matching.states_of S.told S.needs_load stores.old.items)
+            → OnOk result (standing.LeadsOn self.old self.new (matching.states_of S.told S.needs_load stores.new.items)) }
         ensures whole { OnOk result (self.new.is_spent ≡ false) }
         ensures grows { OnOk result (length self.new.kept ≡ suc (length self.old.kept)) }
         ensures stores { OnOk result (matching.StoresMatch self.new.world.hosts (matching.states_of S.told S.needs_load stores.new.items)) }

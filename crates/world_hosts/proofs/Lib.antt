@@ -3,6 +3,7 @@ pub mod Falling
 pub mod HostLists
 pub mod LeaderAmong
 pub mod LoadedHosts
+pub mod Loading
 pub mod MatchingStores
 pub mod ServedHosts
 pub mod StepKeeps
