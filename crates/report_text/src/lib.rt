@@ -18,5 +18,5 @@ pub use json::json_text;
 pub use pieces::{blank, one_operand, two_operands, word};
 pub use printout::Printout;
 pub use replies::{write_event, write_reply};
-pub use report::whole_text;
+pub use report::{write_items, write_rest};
 pub use waiting::waiting_of;
