@@ -16,7 +16,7 @@ pub use calls::{level_text, write_op, write_query};
 pub use items::watch_text;
 pub use json::json_text;
 pub use pieces::{blank, one_operand, two_operands, word};
-pub use printout::Printout;
+pub use printout::{Printout, head_text};
 pub use replies::{write_event, write_reply};
 pub use report::{write_items, write_rest};
 pub use waiting::waiting_of;

@@ -1,6 +1,6 @@
 -- How a script's jobs are carried out, one behind the other.
 use Rattle.std.proofs.Common.{◌≡◌, ℕ, ◌≤◌, List, [], ◌∷◌, ◌++◌, length, map, refl, ap, sym, ◌∙◌, subst, append_assoc, append-nil}
-use Rattle.std.proofs.Common.{inl, inr, arith, suc, ◌<◌, ◌+◌, drop, slice_index_or}
+use Rattle.std.proofs.Common.{inl, inr, arith, suc, ◌<◌, ◌+◌, drop, drop_at, slice_index_or}
 use Rattle.std.proofs.lemmas.List.{drop_more, drop_all}
 use Rattle.std.specs.Prelude.{◌⊎◌, ⊤, Bool, true, false, Option, Some, None, flat_map, Result, Ok, Err, IsErrAnd}
 use Rattle.std.specs.List.{AllByRecursion}
@@ -26,6 +26,8 @@ use Rattle.law_run.proofs.Walks as walks
 use Rattle.spec_report.specs.Items as report_items
 use Rattle.spec_report.specs.ReportValues as report_values
 use Rattle.script_run.specs.Carrying as carrying
+use Rattle.ax_world.specs.OpenWorlds as open_worlds
+use Rattle.script_run.specs.RunsInCode as in_code
 use Rattle.script_run.specs.ScriptRuns as script_runs
 use Rattle.script_run.specs.declared.telling.GivenUp.{GivenUp}
 use Rattle.script_run.specs.declared.telling.GivenUp.TheVariants as given_up
@@ -103,6 +105,7 @@ half_told b rest left before after made m h next =
       whole = step.written;
       rest = left;
       so_far = subst (λ (s : carrying.RunSoFar). carrying.IsRunSoFar b (record s { written = step.written }) left) (sym m.same) next;
+      text = subst (λ (s : carrying.RunSoFar). s.json ≡ false) (sym m.same) m.text;
       front = subst (λ (s : carrying.RunSoFar). ax_io_content.TakesFront b.taken after.written (carrying.told_text s.json s.transcript)) (sym m.same)
           (front_more before.json b.taken before.written after.written before.transcript items h.written m.front);
     }
@@ -298,6 +301,7 @@ leaves_front json s states taken after form stores telling h = record {
   first = first_steps s taken (record after { written = h.whole }) h.rest h.so_far;
   stores = subst (λ (w : worlds.World). matching.StoresMatch w.hosts states) (sym (ap (λ (r : runs.Ran). r.world) h.so_far.in_hand.so_far)) stores;
   telling = telling;
+  text = sym form ∙ h.text;
   front = subst (λ items. ax_io_content.TakesFront taken after.written (carrying.told_text json items)) (shown_so s taken (record after { written = h.whole }) h.rest h.so_far)
       (subst (λ j. ax_io_content.TakesFront taken after.written (carrying.told_text j after.transcript)) form h.front);
 }
@@ -321,6 +325,47 @@ full_at n a b = grind (arith, a, b)
 
 pub one_more : (n m : ℕ) → m ≡ suc n → n < MAX_STEPS → m ≤ MAX_STEPS
 one_more n m e l = rw (e) l
+
+-- ---- a step and its lines
+
+-- how a run goes on behind a step, by what became of its lines
+abbrev pub after_telling : Result (Unit {0}) GivenUp → Result Bool GivenUp
+after_telling (Ok x) = Ok true
+after_telling (Err e) = Err e
+
+items_shown : (before now : open_worlds.OpenWorld) (made : Step) (items : List Item) (m : open_worlds.IsStep before made now) → items ≡ drop (length before.transcript) now.transcript
+    → items ≡ (moves.moved before.world (carrying.made_so made m.outcome)).items
+items_shown before now made items m at =
+    at ∙ ap (λ (w : open_worlds.OpenWorld). drop (length before.transcript) w.transcript) m.same
+    ∙ drop_at before.transcript (moves.moved before.world (carrying.made_so made m.outcome)).items (length before.transcript) refl
+
+pub told_step : (json : Bool) (before now : open_worlds.OpenWorld) (taken written : Option (List ℕ)) (made : Step) (items : List Item) (r : Result (Unit {0}) GivenUp)
+    → open_worlds.IsStep before made now → items ≡ drop (length before.transcript) now.transcript → carrying.Tells json items taken written r → length now.kept ≤ MAX_STEPS
+    → carrying.Makes (in_code.so_far json taken before) made (in_code.so_far json written now) (after_telling r)
+told_step json before now taken written made items (Ok x) m at told within =
+    let shown = items_shown before now made items m at in (
+      record {
+        outcome = m.outcome;
+        may = m.may;
+        same = ap (in_code.so_far json written) m.same
+            ∙ ap (λ w. in_code.so_far json w (open_worlds.stepped before (carrying.made_so made m.outcome))) (told.0 ∙ ap (λ is. ax_io_content.append_told taken (carrying.told_text json is)) shown);
+        fits = subst (carrying.Fit json) shown told.1;
+      },
+      within,
+    )
+told_step json before now taken written made items (Err given_up.NoMemory) m at told within = (refl, told)
+told_step json before now taken written made items (Err given_up.WriteFault) m at told within =
+    let shown = items_shown before now made items m at in (
+      record {
+        outcome = m.outcome;
+        may = m.may;
+        same = ap (in_code.so_far json written) m.same;
+        text = told.0;
+        front = subst (λ is. ax_io_content.TakesFront taken written (carrying.told_text json is)) shown told.1.0;
+        fits = subst (carrying.Fit json) shown told.1.1;
+      },
+      within,
+    )
 
 -- ---- by what a call answered
 

@@ -30,6 +30,12 @@ abbrev pub Fit : Bool → List Item → Type 0
 Fit false items = AllByRecursion report_values.FitsItem items
 Fit true items = Unit {0}
 
+-- what a sink took of the lines of items: all; none, where memory was wanted; or a front of them, where the write failed
+abbrev pub Tells : Bool → List Item → Option (List ℕ) → Option (List ℕ) → Result (Unit {0}) GivenUp → Type 0
+Tells json items before now (Ok _) = (now ≡ ax_io_content.append_told before (told_text json items)) × Fit json items
+Tells json items before now (Err given_up.NoMemory) = now ≡ before
+Tells json items before now (Err given_up.WriteFault) = (json ≡ false) × ax_io_content.TakesFront before now (told_text json items) × Fit json items
+
 -- what a run begins with: its world, all of its jobs, and what its sink took before
 pub record Beginning : Type 0 where
   pub world : worlds.World
@@ -81,6 +87,7 @@ pub record IsStepHalfTold (before : RunSoFar) (step : Step) (after : RunSoFar) :
   pub outcome : StepOutcome
   pub may : moves.may_fare before.world (made_so step outcome) ≡ true
   pub same : after ≡ record (stepped_with before (made_so step outcome)) { written = after.written }
+  pub text : before.json ≡ false
   pub front : ax_io_content.TakesFront before.written after.written (told_text before.json (moves.moved before.world (made_so step outcome)).items)
   pub fits : Fit before.json (moves.moved before.world (made_so step outcome)).items
 
@@ -117,6 +124,7 @@ pub record IsHalfTold (b : Beginning) (s : RunSoFar) : Type 0 where
   pub whole : Option (List ℕ)
   pub rest : List runs.Work
   pub so_far : IsRunSoFar b (record s { written = whole }) rest
+  pub text : s.json ≡ false
   pub front : ax_io_content.TakesFront b.taken s.written (told_text s.json s.transcript)
 
 abbrev pub IsGivenUp : Beginning → RunSoFar → GivenUp → Type 0

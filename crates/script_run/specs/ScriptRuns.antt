@@ -57,6 +57,7 @@ pub record LeavesFront (json : Bool) (s : Script) (states : List matching.StoreS
   pub first : AreFirstSteps s steps
   pub stores : matching.StoresMatch (ran_steps s steps).world.hosts states
   pub telling : matching.AreTelling states
+  pub text : json ≡ false
   pub front : ax_io_content.TakesFront before now (carrying.told_text json (items_of s steps))
 
 abbrev pub Leaves : Bool → Script → List matching.StoreState → Option (List ℕ) → Option (List ℕ) → Result Ran GivenUp → Type 0

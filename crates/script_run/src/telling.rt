@@ -1,5 +1,4 @@
-ghost use Rattle.std.specs.Prelude.{◌≡◌, drop, OnOk, IsErrOf};
-ghost use Rattle.ax_io.specs.Content as ax_io_content;
+ghost use Rattle.std.specs.Prelude.{◌≡◌, drop};
 ghost use Rattle.script_run.specs.declared.telling.GivenUp.TheVariants as given_up;
 ghost use Rattle.script_run.specs.Carrying as carrying;
 ghost use Rattle.script_run.specs.RunsInCode as in_code;
@@ -46,10 +45,7 @@ pub(crate) fn tell<O: Sink>(
     json: bool,
     items: &[Item],
 ) -> Result<(), GivenUp>
-    ensures told { OnOk result (O.content output.new ≡ ax_io_content.append_told (O.content output.old) (carrying.told_text json items.now)) }
-    ensures untold { IsErrOf result GivenUp.NoMemory → output.new ≡ output.old }
-    ensures front { IsErrOf result GivenUp.WriteFault → ax_io_content.TakesFront (O.content output.old) (O.content output.new) (carrying.told_text json items.now) }
-    ensures fits { in_code.UnlessNoMemory result (carrying.Fit json items.now) }
+    ensures tells { carrying.Tells json items.now (O.content output.old) (O.content output.new) result }
     ensures sink { in_code.LeavesSink json O.faults output.old output.new result }
 {
     if json || items.is_empty() {

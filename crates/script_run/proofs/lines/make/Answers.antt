@@ -1,4 +1,5 @@
 use Rattle.std.proofs.Common.{rules, ◌≡◌, ◌≤◌, ◌<◌, length, refl, ap, subst, sym}
+use Rattle.std.specs.Prelude.{Ok, Err}
 use Rattle.ax_types.specs.declared.limits.TheConstants.{MAX_STEPS}
 use Rattle.script_run.specs.Carrying as carrying
 use Rattle.script_run.specs.RunsInCode as in_code
@@ -7,20 +8,3 @@ use Rattle.script_run.proofs.lines.make.Goals as goal
 
 pub returns-then-kept-ge-MAX_STEPS-clause-makes : goal.returns-then-kept-ge-MAX_STEPS-clause-makes
 returns-then-kept-ge-MAX_STEPS-clause-makes g c = λ tells. (refl, lemmas.full_at (length c.args.world.now.kept) c.requires.ready.within (subst (λ ks. MAX_STEPS ≤ length ks) c.kept.ensures c.if-kept-ge-MAX_STEPS.true))
-
-pub returns-clause-makes : goal.returns-clause-makes
-returns-clause-makes g c = λ tells.
-    let made = c.in_ok-step.ensures.made tells in (
-      record { outcome = made.outcome; may = made.may; same = ap in_code.so_far made.same },
-      lemmas.one_more (length c.args.world.now.kept) (length c.step.new.self.kept) c.in_ok-step.ensures.grows (search rules),
-    )
-
-pub returns-clause-ready : goal.returns-clause-ready
-returns-clause-ready g c = record {
-  ready = record {
-    whole = c.in_ok-step.ensures.whole;
-    within = lemmas.one_more (length c.args.world.now.kept) (length c.step.new.self.kept) c.in_ok-step.ensures.grows (search rules);
-    matches = c.in_ok-step.ensures.stores;
-  };
-  telling = c.step.ensures.told;
-}
