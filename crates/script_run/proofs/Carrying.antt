@@ -38,33 +38,33 @@ transcript_append (s ∷ shown) m = ap (λ items. s.items ++ items) (transcript_
 
 -- ---- what is written of items that come behind others
 
-lines_append : (as bs : List (List ℕ)) → report_items.lines_text (as ++ bs) ≡ report_items.lines_text as ++ report_items.lines_text bs
-lines_append [] bs = refl
-lines_append (a ∷ as) bs =
-    ap (λ l. a ++ (10 ∷ l)) (lines_append as bs) ∙ sym (append_assoc a (10 ∷ report_items.lines_text as) (report_items.lines_text bs))
+lines_append : (xs ys : List (List ℕ)) → report_items.lines_text (xs ++ ys) ≡ report_items.lines_text xs ++ report_items.lines_text ys
+lines_append [] ys = refl
+lines_append (a ∷ xs) ys =
+    ap (λ l. a ++ (10 ∷ l)) (lines_append xs ys) ∙ sym (append_assoc a (10 ∷ report_items.lines_text xs) (report_items.lines_text ys))
 
 map_append : {X Y : Type 0} (f : X → Y) (xs ys : List X) → map f (xs ++ ys) ≡ map f xs ++ map f ys
 map_append f [] ys = refl
 map_append f (x ∷ xs) ys = ap (λ l. f x ∷ l) (map_append f xs ys)
 
-pub told_append : (json : Bool) (as bs : List Item) → carrying.told_text json (as ++ bs) ≡ carrying.told_text json as ++ carrying.told_text json bs
-told_append true as bs = refl
-told_append false as bs = ap report_items.lines_text (map_append report_items.item_line as bs) ∙ lines_append (map report_items.item_line as) (map report_items.item_line bs)
+pub told_append : (json : Bool) (xs ys : List Item) → carrying.told_text json (xs ++ ys) ≡ carrying.told_text json xs ++ carrying.told_text json ys
+told_append true xs ys = refl
+told_append false xs ys = ap report_items.lines_text (map_append report_items.item_line xs ys) ∙ lines_append (map report_items.item_line xs) (map report_items.item_line ys)
 
 all_append : {X : Type 0} (P : X → Type 0) (xs ys : List X) → AllByRecursion P xs → AllByRecursion P ys → AllByRecursion P (xs ++ ys)
 all_append P [] ys h k = k
 all_append P (x ∷ xs) ys h k = (h.0, all_append P xs ys h.1 k)
 
-fit_append : (json : Bool) (as bs : List Item) → carrying.Fit json as → carrying.Fit json bs → carrying.Fit json (as ++ bs)
-fit_append true as bs f g = tt
-fit_append false as bs f g = all_append report_values.FitsItem as bs f g
+fit_append : (json : Bool) (xs ys : List Item) → carrying.Fit json xs → carrying.Fit json ys → carrying.Fit json (xs ++ ys)
+fit_append true xs ys f g = tt
+fit_append false xs ys f g = all_append report_values.FitsItem xs ys f g
 
-pub told_more : (json : Bool) (taken written : Option (List ℕ)) (as bs : List Item) → written ≡ ax_io_content.append_told taken (carrying.told_text json as)
-    → ax_io_content.append_told written (carrying.told_text json bs) ≡ ax_io_content.append_told taken (carrying.told_text json (as ++ bs))
-told_more json taken written as bs e =
-    ap (λ w. ax_io_content.append_told w (carrying.told_text json bs)) e
-    ∙ append_told-append_told taken (carrying.told_text json as) (carrying.told_text json bs)
-    ∙ ap (ax_io_content.append_told taken) (sym (told_append json as bs))
+pub told_more : (json : Bool) (taken written : Option (List ℕ)) (xs ys : List Item) → written ≡ ax_io_content.append_told taken (carrying.told_text json xs)
+    → ax_io_content.append_told written (carrying.told_text json ys) ≡ ax_io_content.append_told taken (carrying.told_text json (xs ++ ys))
+told_more json taken written xs ys e =
+    ap (λ w. ax_io_content.append_told w (carrying.told_text json ys)) e
+    ∙ append_told-append_told taken (carrying.told_text json xs) (carrying.told_text json ys)
+    ∙ ap (ax_io_content.append_told taken) (sym (told_append json xs ys))
 
 append_nothing : (taken : Option (List ℕ)) → ax_io_content.append_told taken [] ≡ taken
 append_nothing None = refl
@@ -76,10 +76,10 @@ nothing_told true taken = append_nothing taken
 nothing_told false taken = append_nothing taken
 
 -- a front of the lines of a step's items is one of the lines of all
-front_more : (json : Bool) (taken mid now : Option (List ℕ)) (as bs : List Item) → mid ≡ ax_io_content.append_told taken (carrying.told_text json as)
-    → ax_io_content.TakesFront mid now (carrying.told_text json bs) → ax_io_content.TakesFront taken now (carrying.told_text json (as ++ bs))
-front_more json taken mid now as bs e f =
-    subst (ax_io_content.TakesFront taken now) (sym (told_append json as bs)) (TakesFront-more (carrying.told_text json as) (carrying.told_text json bs) e f)
+front_more : (json : Bool) (taken mid now : Option (List ℕ)) (xs ys : List Item) → mid ≡ ax_io_content.append_told taken (carrying.told_text json xs)
+    → ax_io_content.TakesFront mid now (carrying.told_text json ys) → ax_io_content.TakesFront taken now (carrying.told_text json (xs ++ ys))
+front_more json taken mid now xs ys e f =
+    subst (ax_io_content.TakesFront taken now) (sym (told_append json xs ys)) (TakesFront-more (carrying.told_text json xs) (carrying.told_text json ys) e f)
 
 -- ---- a step that follows, by the run that is in hand after it
 
@@ -397,11 +397,11 @@ pub carried_then : (line : ℕ) (js ks : List runs.Job) (before mid after : carr
     → carrying.Carries line ks mid after went → carrying.Carries line (js ++ ks) before after went
 carried_then line js ks before mid after first went e f g = goes_on line js ks before mid after went (subst (λ w. carrying.Carries line js before mid (Ok w)) e f) g
 
--- the run is full
-pub full_end : (went : Bool) → went ≡ false → IsEnd (Ok went)
-full_end true e = cc
-full_end false e = tt
+pub carried_stops : (line : ℕ) (js ks : List runs.Job) (before after : carrying.RunSoFar) (first : Bool) → first ≡ false → carrying.Carries line js before after (Ok first)
+    → carrying.Carries line (js ++ ks) before after (Ok false)
+carried_stops line js ks before after first e f = stops_there line js ks before after (Ok false) tt (subst (λ w. carrying.Carries line js before after (Ok w)) e f)
 
+-- the run is full
 pub told_full : (went : Bool) (P : Bool → Type 0) → went ≡ false → P went → P false
 told_full went P e h = subst P e h
 
