@@ -31,6 +31,7 @@ use Rattle.script_run.specs.RunsInCode as in_code
 use Rattle.script_run.specs.ScriptRuns as script_runs
 use Rattle.script_run.specs.declared.telling.GivenUp.{GivenUp}
 use Rattle.script_run.specs.declared.telling.GivenUp.TheVariants as given_up
+use Rattle.script_run.specs.declared.whole.Ran.{Ran}
 
 transcript_append : (shown : List transcripts.Shown) (m : transcripts.Shown) → transcripts.transcript (shown ++ m ∷ []) ≡ transcripts.transcript shown ++ m.items
 transcript_append [] m = append-nil m.items
@@ -306,17 +307,54 @@ leaves_front json s states taken after form stores telling h = record {
       (subst (λ j. ax_io_content.TakesFront taken after.written (carrying.told_text j after.transcript)) form h.front);
 }
 
--- what a whole script leads to
-pub script_ends : (s : Script) (json : Bool) (taken : Option (List ℕ)) (after : carrying.RunSoFar) (end : RunEnd)
-    → carrying.RunsLines s.lines (carrying.before_steps (script_runs.world_of_script s) json taken) after (Ok end)
-    → carrying.IsRunToEnd (script_runs.world_of_script s) (runs.works_of s.lines) after end × (after.written ≡ ax_io_content.append_told taken (carrying.told_text after.json after.transcript)) × carrying.Fit after.json after.transcript
-script_ends s json taken after end f = by_end end (from_begin s json taken after (Ok end) f)
+-- no step was made
+pub nothing_made : (json : Bool) (s : Script) (states : List matching.StoreState) (taken : Option (List ℕ)) (r : Result Ran GivenUp) → IsErrAnd r (λ x. x ≡ given_up.NoMemory) → script_runs.Leaves json s states taken taken r
+nothing_made json s states taken (Ok ran) is = absurd is
+nothing_made json s states taken (Err x) is = subst (λ y. script_runs.Leaves json s states taken taken (Err y)) (sym is) (record {
+  steps = [];
+  first = record { fared = refl; same = refl; within = zero_below runs.most_steps };
+  written = sym (nothing_told json taken);
+})
+
+-- a script that was given up
+given_up_so : (json : Bool) (s : Script) (told states : List matching.StoreState) (taken written : Option (List ℕ)) (w : open_worlds.OpenWorld) (e : GivenUp) → matching.AreTelling told
+    → carrying.Ends (script_runs.beginning_of s taken) (in_code.so_far json written w) [] (Err e) → in_code.UnlessNoMemory {A = RunEnd} (Err e) (in_code.StaysReady told w states) → script_runs.Leaves json s states taken written (Err e)
+given_up_so json s told states taken written w given_up.NoMemory tells h ready = leaves_lines json s taken (in_code.so_far json written w) refl h
+given_up_so json s told states taken written w given_up.WriteFault tells h ready = leaves_front json s states taken (in_code.so_far json written w) refl ready.ready.matches (ready.telling tells) h
+
+pub script_breaks : (json : Bool) (s : Script) (told states : List matching.StoreState) (taken written : Option (List ℕ)) (first w : open_worlds.OpenWorld) (e : GivenUp) (r : Result Ran GivenUp) → matching.AreTelling told
+    → first ≡ open_worlds.opened s.nodes s.clients s.timeout → carrying.RunsLines s.lines (in_code.so_far json taken first) (in_code.so_far json written w) (Err e) → in_code.UnlessNoMemory {A = RunEnd} (Err e) (in_code.StaysReady told w states)
+    → IsErrAnd r (λ x. x ≡ e) → script_runs.Leaves json s states taken written r
+script_breaks json s told states taken written first w e (Ok ran) tells opened f ready is = absurd is
+script_breaks json s told states taken written first w e (Err x) tells opened f ready is =
+    subst (λ y. script_runs.Leaves json s states taken written (Err y)) (sym is)
+    (given_up_so json s told states taken written w e tells
+    (from_begin s json taken (in_code.so_far json written w) (Err e) (subst (λ o. carrying.RunsLines s.lines (in_code.so_far json taken o) (in_code.so_far json written w) (Err e)) opened f)) ready)
+
+-- a script that was run to its end
+pub script_ends : (json : Bool) (s : Script) (told states : List matching.StoreState) (taken written : Option (List ℕ)) (first w : open_worlds.OpenWorld) (ran : Ran) → matching.AreTelling told
+    → first ≡ open_worlds.opened s.nodes s.clients s.timeout → carrying.RunsLines s.lines (in_code.so_far json taken first) (in_code.so_far json written w) (Ok ran.end) → in_code.StaysReady told w states
+    → ran.items.items ≡ w.transcript → ran.history.items ≡ w.world.history → script_runs.RunsScript json s states taken written ran
+script_ends json s told states taken written first w ran tells opened f ready items history =
+    by_end ran.end refl (from_begin s json taken (in_code.so_far json written w) (Ok ran.end) (subst (λ o. carrying.RunsLines s.lines (in_code.so_far json taken o) (in_code.so_far json written w) (Ok ran.end)) opened f))
   where
-    by_end : (end : RunEnd) → carrying.Ends (script_runs.beginning_of s taken) after [] (Ok end)
-        → carrying.IsRunToEnd (script_runs.world_of_script s) (runs.works_of s.lines) after end × (after.written ≡ ax_io_content.append_told taken (carrying.told_text after.json after.transcript)) × carrying.Fit after.json after.transcript
-    by_end ends.Done h = (at_end (script_runs.beginning_of s taken) [] after ends.Done h (inl refl) refl, h.written, h.fits)
-    by_end (ends.StepLimit line) h =
-        (at_end (script_runs.beginning_of s taken) h.rest after (ends.StepLimit line) h.so_far (inr h.full) (ap ends.StepLimit (sym h.at) ∙ ap runs.end_at (sym h.next)), h.so_far.written, h.so_far.fits)
+    ended : (end : RunEnd) (rest : List runs.Work) → ran.end ≡ end → carrying.IsRunSoFar (script_runs.beginning_of s taken) (in_code.so_far json written w) rest
+        → carrying.IsRunToEnd (script_runs.world_of_script s) (runs.works_of s.lines) (in_code.so_far json written w) end → script_runs.RunsScript json s states taken written ran
+    ended end rest is h to_end = record {
+      all = in_code.so_far json written w;
+      ends = subst (carrying.IsRunToEnd (script_runs.world_of_script s) (runs.works_of s.lines) (in_code.so_far json written w)) (sym is) to_end;
+      items = items;
+      history = history;
+      stores = ready.ready.matches;
+      telling = ready.telling tells;
+      written = h.written;
+      fits = h.fits;
+    }
+    by_end : (end : RunEnd) → ran.end ≡ end → carrying.Ends (script_runs.beginning_of s taken) (in_code.so_far json written w) [] (Ok end) → script_runs.RunsScript json s states taken written ran
+    by_end ends.Done is h = ended ends.Done [] is h (at_end (script_runs.beginning_of s taken) [] (in_code.so_far json written w) ends.Done h (inl refl) refl)
+    by_end (ends.StepLimit line) is h =
+        ended (ends.StepLimit line) h.rest is h.so_far
+        (at_end (script_runs.beginning_of s taken) h.rest (in_code.so_far json written w) (ends.StepLimit line) h.so_far (inr h.full) (ap ends.StepLimit (sym h.at) ∙ ap runs.end_at (sym h.next)))
 
 -- ---- how many steps were made
 
@@ -361,8 +399,8 @@ told_step json before now taken written made items (Err given_up.WriteFault) m a
         may = m.may;
         same = ap (in_code.so_far json written) m.same;
         text = told.0;
-        front = subst (λ is. ax_io_content.TakesFront taken written (carrying.told_text json is)) shown told.1.0;
-        fits = subst (carrying.Fit json) shown told.1.1;
+        front = subst (λ is. ax_io_content.TakesFront taken written (carrying.told_text json is)) shown told.1;
+        fits = subst (carrying.Fit json) shown told.2;
       },
       within,
     )

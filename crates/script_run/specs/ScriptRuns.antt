@@ -1,5 +1,5 @@
 -- What the run of a whole script gives, and what one that was given up leaves.
-use Rattle.std.specs.Prelude.{ℕ, ◌≡◌, ◌≤◌, Bool, false, Option, Result, Ok, Err, List, length}
+use Rattle.std.specs.Prelude.{ℕ, ◌≡◌, ◌≤◌, Bool, true, false, Option, Result, Ok, Err, List, length}
 use Rattle.ax_io.specs.Content as ax_io_content
 use Rattle.ax_types.specs.declared.items.Item.{Item}
 use Rattle.ax_types.specs.declared.scripts.Script.{Script}

@@ -1,6 +1,7 @@
-use Rattle.std.proofs.Common.{rules, ◌≡◌, refl, sym, ◌∙◌, true, false}
+use Rattle.std.proofs.Common.{rules, ◌≡◌, refl, sym, ◌∙◌, true, false, [], ◌∷◌}
 use Rattle.std.specs.Prelude.{Ok, Err}
 use Rattle.ax_types.specs.declared.steps.Step.TheVariants as step
+use Rattle.spec_run.specs.Run as runs
 use Rattle.script_run.specs.Carrying as carrying
 use Rattle.script_run.specs.RunsInCode as in_code
 use Rattle.script_run.proofs.Carrying as lemmas
@@ -25,3 +26,9 @@ packets-preserved g c = record {
 
 pub returns-clause-carries : goal.returns-clause-carries
 returns-clause-carries g c = λ tells line. lemmas.deliveries_end (in_code.so_far c.args.json (g.O.Sink.content c.args.output.now) c.args.world.now) (in_code.so_far c.args.json (g.O.Sink.content c.packets.output) c.packets.world) line (c.packets.invariant.leads tells) (search rules)
+
+pub returns-in_err-deliver-clause-carries : goal.returns-in_err-deliver-clause-carries
+returns-in_err-deliver-clause-carries g c = λ tells line.
+    lemmas.passes c.from_residual.result c.in_err-deliver.field-0.0 (λ r. carrying.Carries line (runs.Deliver_all ∷ []) (in_code.so_far c.args.json (g.O.Sink.content c.args.output.now) c.args.world.now) (in_code.so_far c.args.json (g.O.Sink.content c.deliver.new.output) c.deliver.new.world) r) c.from_residual.ensures.1
+    (lemmas.delivery_stops (in_code.so_far c.args.json (g.O.Sink.content c.packets.output) c.packets.world) (in_code.so_far c.args.json (g.O.Sink.content c.deliver.new.output) c.deliver.new.world) c.in-Some.number (Err c.in_err-deliver.field-0.0) (in_code.so_far c.args.json (g.O.Sink.content c.args.output.now) c.args.world.now) line (c.packets.invariant.leads tells)
+    (sym c.flush_next.ensures ∙ c.in-Some.is) tt (c.in_err-deliver.ensures.makes (c.packets.invariant.telling tells)))

@@ -21,3 +21,8 @@ lines-preserved g c = record {
 
 pub returns-clause-runs : goal.returns-clause-runs
 returns-clause-runs g c = λ tells. lemmas.lines_end c.args.lines.now c.lines.entry-index (in_code.so_far c.args.json (g.O.Sink.content c.args.output.now) c.args.world.now) (in_code.so_far c.args.json (g.O.Sink.content c.lines.output) c.lines.world) (grind (arith, c.lines-test.false)) (c.lines.invariant.runs tells)
+
+pub returns-in_err-run_line-clause-runs : goal.returns-in_err-run_line-clause-runs
+returns-in_err-run_line-clause-runs g c = λ tells.
+    lemmas.line_breaks c.args.lines.now c.lines.entry-index c.entry-item.result (in_code.so_far c.args.json (g.O.Sink.content c.args.output.now) c.args.world.now) (in_code.so_far c.args.json (g.O.Sink.content c.lines.output) c.lines.world) (in_code.so_far c.args.json (g.O.Sink.content c.run_line.new.output) c.run_line.new.world) c.in_err-run_line.field-0.0 c.from_residual.result
+    (search c.lines-test.true) c.entry-item.is (c.lines.invariant.runs tells) c.from_residual.ensures.1 (c.in_err-run_line.ensures.carries (c.lines.invariant.telling tells) c.entry-item.result.0)

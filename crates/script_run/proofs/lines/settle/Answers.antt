@@ -26,3 +26,18 @@ returns-clause-carries g c = λ tells line.
     c.if-not-branch.false (c.in_ok-deliver_all.ensures.carries tells line)
     (lemmas.carried_then line beats beats (in_code.so_far c.args.json (g.O.Sink.content c.deliver_all.new.output) c.deliver_all.new.world) (in_code.so_far c.args.json (g.O.Sink.content c.beat_and_deliver.new.output) c.beat_and_deliver.new.world) (in_code.so_far c.args.json (g.O.Sink.content c.beat_and_deliver-2.new.output) c.beat_and_deliver-2.new.world) c.in_ok-beat_and_deliver.field-0 c.beat_and_deliver-2.result
     c.if-not-branch-2.false (c.in_ok-beat_and_deliver.ensures.carries told line) (c.beat_and_deliver-2.ensures.carries (c.in_ok-beat_and_deliver.ensures.ready.telling told) line))
+
+pub returns-in_err-deliver_all-clause-carries : goal.returns-in_err-deliver_all-clause-carries
+returns-in_err-deliver_all-clause-carries g c = λ tells line.
+    lemmas.passes c.from_residual.result c.in_err-deliver_all.field-0.0 (λ r. carrying.Carries line (in_code.settle_jobs c.args.node) (in_code.so_far c.args.json (g.O.Sink.content c.args.output.now) c.args.world.now) (in_code.so_far c.args.json (g.O.Sink.content c.deliver_all.new.output) c.deliver_all.new.world) r) c.from_residual.ensures.1
+    (lemmas.stops_there line (runs.Deliver_all ∷ []) (in_code.beat_jobs c.args.node ++ in_code.beat_jobs c.args.node) (in_code.so_far c.args.json (g.O.Sink.content c.args.output.now) c.args.world.now) (in_code.so_far c.args.json (g.O.Sink.content c.deliver_all.new.output) c.deliver_all.new.world) (Err c.in_err-deliver_all.field-0.0) tt
+    (c.in_err-deliver_all.ensures.carries tells line))
+
+pub returns-in_err-beat_and_deliver-clause-carries : goal.returns-in_err-beat_and_deliver-clause-carries
+returns-in_err-beat_and_deliver-clause-carries g c = λ tells line.
+    let beats = in_code.beat_jobs c.args.node in
+    let e = c.in_err-beat_and_deliver.field-0.0 in
+    lemmas.passes c.from_residual-in_err-beat_and_deliver.result e (λ r. carrying.Carries line (in_code.settle_jobs c.args.node) (in_code.so_far c.args.json (g.O.Sink.content c.args.output.now) c.args.world.now) (in_code.so_far c.args.json (g.O.Sink.content c.beat_and_deliver.new.output) c.beat_and_deliver.new.world) r) c.from_residual-in_err-beat_and_deliver.ensures.1
+    (lemmas.carried_then line (runs.Deliver_all ∷ []) (beats ++ beats) (in_code.so_far c.args.json (g.O.Sink.content c.args.output.now) c.args.world.now) (in_code.so_far c.args.json (g.O.Sink.content c.deliver_all.new.output) c.deliver_all.new.world) (in_code.so_far c.args.json (g.O.Sink.content c.beat_and_deliver.new.output) c.beat_and_deliver.new.world) c.in_ok-deliver_all.field-0 (Err e)
+    c.if-not-branch.false (c.in_ok-deliver_all.ensures.carries tells line)
+    (lemmas.stops_there line beats beats (in_code.so_far c.args.json (g.O.Sink.content c.deliver_all.new.output) c.deliver_all.new.world) (in_code.so_far c.args.json (g.O.Sink.content c.beat_and_deliver.new.output) c.beat_and_deliver.new.world) (Err e) tt (c.in_err-beat_and_deliver.ensures.carries (c.in_ok-deliver_all.ensures.ready.telling tells) line)))
