@@ -62,3 +62,8 @@ still_telling told needs_load (b ∷ before) (x ∷ now) same t = (subst matchin
     later : (k : ℕ) → opened.TellSame told (lists.at_place before k) (lists.at_place now k)
     later zero = tt
     later (suc j) = same (suc (suc j))
+
+-- a store that was not called tells what it told
+pub tells_same : {S : Type 0} (told : S → stores.Told) (s : Option S) → opened.TellSame told s s
+tells_same told None = tt
+tells_same told (Some s) = refl
