@@ -1,5 +1,5 @@
 -- What was written stands by the headline.
-use Rattle.std.proofs.Common.{◌≡◌, false, map, string_bytes, ap, ◌∙◌}
+use Rattle.std.proofs.Common.{false, map, string_bytes, ap, ◌∙◌}
 use Rattle.ax_io.specs.Content as ax_io_content
 use Rattle.world_hosts.specs.StoresMatch as matching
 use Rattle.law_script.proofs.Within.{scripts_within}
