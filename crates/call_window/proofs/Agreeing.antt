@@ -106,7 +106,9 @@ pub rising_numbers : (ds : List views.Drawn) (bound : ℕ) → seats.AreRising d
 rising_numbers [] bound r k lt = absurd (omega arith)
 rising_numbers (d ∷ []) bound r k lt = absurd (omega arith)
 rising_numbers (d ∷ e ∷ ds) bound r zero lt = r.1.0
-rising_numbers (d ∷ e ∷ ds) bound r (suc k) lt = rising_numbers (e ∷ ds) bound r.2 k (omega arith)
+rising_numbers (d ∷ e ∷ ds) bound r (suc k) lt =
+    subst (λ (i : ℕ). get_or (map (λ (c : views.Drawn). c.number) (e ∷ ds)) k 0 < get_or (map (λ (c : views.Drawn). c.number) (d ∷ e ∷ ds)) i 0) (let up : suc (k + 1) ≡ suc k + 1 = omega arith in up)
+    (rising_numbers (e ∷ ds) bound r.2 k (omega arith))
 
 -- ---- lives, by what they show
 
@@ -279,7 +281,10 @@ module _ (places crew : ℕ) (cs : List known.CallerKnown) (p : known.PumpKnown)
 
   none_counted : (ss : List views.SeatView) → count_by (λ s. false) ss ≡ 0
   none_counted [] = refl
-  none_counted (s ∷ ss) = sum_by-cons (λ (s : views.SeatView). cond false 1 0) s ss ∙ none_counted ss
+  none_counted (s ∷ ss) =
+      let head : count_by (λ (t : views.SeatView). false) (s ∷ ss) ≡ 0 + count_by (λ (t : views.SeatView). false) ss = sum_by-cons (λ (t : views.SeatView). cond false 1 0) s ss in
+      let later = none_counted ss in
+      omega arith
 
   drawn_once : (next : ℕ) (r : IsReading places crew cs p 0 next) → ((k : ℕ) → rule.IsCaller crew k → count_by (λ s. nat_eq k s.caller) (map (λ c. c.seat) cs) ≡ 1)
       → (n : ℕ) → agreement.times_drawn n (map (λ c. c.seat) cs) ≡ (if nat_lt n next then 1 else 0)

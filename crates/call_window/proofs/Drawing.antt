@@ -12,6 +12,8 @@ use Rattle.law_window.specs.WindowKnown as known
 use Rattle.law_window.specs.WindowPlays as plays
 use Rattle.law_window.specs.WindowSeats as seats
 use Rattle.call_window.specs.WindowRefused as refusals
+use Rattle.call_window.specs.WindowPolls as polls
+use Rattle.call_window.proofs.Required.{match_true}
 use Rattle.law_window.proofs.Notes.{if_other}
 
 pub rising_more : (ds : List views.Drawn) (a b : ℕ) → a ≤ b → seats.AreRising ds a → seats.AreRising ds b
@@ -35,10 +37,10 @@ pub is_alone : (m : plays.Knows) → seats.IsCallerSeat m → m.0 ≡ known.know
 is_alone m i = ap (λ (z : plays.Knows). z.0) i.alone
 
 two_looks : (l : List window_words.Look) (a b : window_words.Look) → (l ++ a ∷ []) ++ b ∷ [] ≡ l ++ a ∷ b ∷ []
-two_looks l a b = append_assoc
+two_looks l a b = append_assoc l (a ∷ []) (b ∷ [])
 
 three_looks : (l : List window_words.Look) (a b c : window_words.Look) → ((l ++ a ∷ []) ++ b ∷ []) ++ c ∷ [] ≡ l ++ a ∷ b ∷ c ∷ []
-three_looks l a b c = simp append_assoc
+three_looks l a b c = ap (λ (k : List window_words.Look). k ++ c ∷ []) (two_looks l a b) ∙ append_assoc l (a ∷ b ∷ []) (c ∷ [])
 
 -- after the load of next
 pub record Loaded (m m1 : plays.Knows) (n : ℕ) : Type 0 where
@@ -120,7 +122,9 @@ rising_last (d ∷ ds) bound n call r le =
     below_last (e ∷ es) a = (a.0, below_last es a.1)
 
 pub unanswered_last : (ds : List views.Drawn) (bound n : ℕ) (call : WindowCall) → seats.AreRising ds bound → bound ≤ n → seats.IsUnanswered n (ds ++ record { number = n; call = call; outcome = None } ∷ [])
-unanswered_last [] bound n call r le = subst (λ (b : Bool). MatchBool b (None ≡ None) ⊥) (sym (eq-eqb n n refl)) refl
+unanswered_last [] bound n call r le =
+    let none : Option Outcome = None in
+    subst (λ (b : Bool). MatchBool b (none ≡ None) ⊥) (sym (eq-eqb n n refl)) refl
 unanswered_last (d ∷ ds) bound n call r le =
     let lt : d.number < bound = r.0 in
     subst (λ (b : Bool). MatchBool b (d.outcome ≡ None) (seats.IsUnanswered n (ds ++ record { number = n; call = call; outcome = None } ∷ []))) (sym (ne_eqb d.number n (λ e. let f : d.number ≡ n = e in absurd (omega arith))))
@@ -204,3 +208,18 @@ ready places m m1 m2 n b l room =
     let within : n ≤ b + places = l.within in
     let less : n < b + places = omega arith in
     subst (λ (z : plays.Knows). Ready places z n) (sym (loaded_both_me places m m1 m2 n b l)) record { alone = refl; idle = l.loaded.seat.idle; room = less }
+
+-- a caller whose load found its outcome is to take it out
+pub getting : (places : ℕ) (m m1 : plays.Knows) (n found : ℕ) → n ≤ window_words.last_number → found ≡ window_words.answered n → polls.HasLooked places m m1 n found → polls.IsGetting places m1 n
+getting places m m1 n found small hit looked =
+    let t = match_true _ (nat_eq found (window_words.answered n)) (eq-eqb found (window_words.answered n) hit) looked in
+    subst (λ (z : plays.Knows). polls.IsGetting places z n) (sym t.2) record { call = t.0; outcome = t.1; me = refl; task = refl; called = t.3; small = small }
+
+-- the seat once it has the outcome
+pub polled_seat : (places : ℕ) (m m1 m2 : plays.Knows) (n found : ℕ) (o : Outcome) → seats.IsCallerSeat m → found ≡ window_words.answered n → polls.HasLooked places m m1 n found
+    → m2 ≡ (known.known_to_caller (plays.was_told (known.caller_of m1.0) n o), []) → seats.IsCallerSeat m2
+polled_seat places m m1 m2 n found o i hit looked e =
+    let c : known.CallerKnown = known.caller_of m.0 in
+    let t = match_true _ (nat_eq found (window_words.answered n)) (eq-eqb found (window_words.answered n) hit) looked in
+    let whole : m2 ≡ (known.known_to_caller (plays.was_told (plays.got places c n t.0 t.1) n o), []) = e ∙ ap (λ (z : plays.Knows). (known.known_to_caller (plays.was_told (known.caller_of z.0) n o), [])) t.2 in
+    subst seats.IsCallerSeat (sym whole) (told_seat (plays.got places c n t.0 t.1) n o i.rising i.small)

@@ -1,5 +1,6 @@
 -- What the steps of the pump come to in one call.
 use Rattle.std.proofs.Common.{◌≡◌, ◌≢◌, ℕ, zero, suc, ◌+◌, ◌<◌, ◌≤◌, inl, inr, nat_eq, eq-eqb, ne_eqb, cond, Bool, true, false, Option, Some, None, List, [], ◌∷◌, ◌++◌, length, append_assoc, add-one, refl, sym, ap, ap₂, subst, ◌∙◌, le_refl, arith, length-append}
+use Rattle.std.specs.Prelude.{MatchBool}
 use Rattle.std.specs.List.{AllByRecursion, count_by, slice_get}
 use Rattle.std.proofs.lemmas.List.{append-nil}
 use Rattle.std.proofs.lemmas.List.Sums.{sum_by-cons, sum_by-append}
@@ -17,6 +18,7 @@ use Rattle.call_window.specs.WindowPumping as pumping
 use Rattle.law_window.specs.WindowSeats as seats
 use Rattle.law_window.proofs.Places.{by_eq}
 use Rattle.law_window.proofs.Seating.{each_since}
+use Rattle.call_window.proofs.Required.{match_true, match_false}
 
 -- ---- the base
 
@@ -37,7 +39,6 @@ climbs_none places m base r =
 
 -- the pump with a base and looks
 with_base : views.PumpView → ℕ → List window_words.Look → views.PumpView
-unfolding with_base
 with_base p b l = record p { base = b; looks = l }
 
 pub climbs_one : (places : ℕ) (m m1 m2 : plays.Knows) (base k base' : ℕ) → pumping.HasClimbed places m m1 base k → pumping.HasPassed places m1 m2 → base' ≡ base + 1 → (k' : ℕ) → k' ≡ k + 1 → pumping.HasClimbed places m m2 base' k'
@@ -53,7 +54,7 @@ climbs_one places m m1 m2 base k base' h passed is k' k_is =
     let one : List window_words.Look = window_calls.look (window_words.state_word places (b + k)) (window_words.free_for (b + k + places)) ∷ [] in
     let looks : q.pump.looks ++ window_calls.look (window_words.state_word places q.pump.base) (window_words.free_for (q.pump.base + places)) ∷ [] ≡ p.looks ++ window_calls.raising_looks places b k' =
     ap₂ (λ (l : List window_words.Look) (i : ℕ). l ++ window_calls.look (window_words.state_word places i) (window_words.free_for (i + places)) ∷ []) q_looks q_base
-    ∙ (append_assoc {l₁ = p.looks} {l₂ = window_calls.raising_looks places b k} {l₃ = one} ∙ ap (λ (l : List window_words.Look). p.looks ++ l) (sym (raising_more places b k) ∙ ap (window_calls.raising_looks places b) (let e : suc k ≡ k' = omega arith in e))) in
+    ∙ (append_assoc p.looks (window_calls.raising_looks places b k) one ∙ ap (λ (l : List window_words.Look). p.looks ++ l) (sym (raising_more places b k) ∙ ap (window_calls.raising_looks places b) (let e : suc k ≡ k' = omega arith in e))) in
     let base_new : q.pump.base + 1 ≡ b + k' = omega arith in
     let before : with_base q.pump (b + k') (p.looks ++ window_calls.raising_looks places b k') ≡ with_base p (b + k') (p.looks ++ window_calls.raising_looks places b k') = ap (λ (x : views.PumpView). with_base x (b + k') (p.looks ++ window_calls.raising_looks places b k')) h.pump in
     subst (λ (z : plays.Knows). pumping.HasClimbed places m z base' k') (sym passed.0) record {
@@ -73,7 +74,7 @@ climbs_end places m m1 m2 base k h lt stop =
     let q_looks : q.pump.looks ≡ p.looks ++ window_calls.raising_looks places b k = ap (λ (x : views.PumpView). x.looks) h.pump in
     let one : List window_words.Look = window_calls.look (window_words.state_word places (b + k)) f ∷ [] in
     let looks : q.pump.looks ++ window_calls.look (window_words.state_word places q.pump.base) f ∷ [] ≡ p.looks ++ (window_calls.raising_looks places b k ++ one) =
-    ap₂ (λ (l : List window_words.Look) (i : ℕ). l ++ window_calls.look (window_words.state_word places i) f ∷ []) q_looks q_base ∙ append_assoc {l₁ = p.looks} {l₂ = window_calls.raising_looks places b k} {l₃ = one} in
+    ap₂ (λ (l : List window_words.Look) (i : ℕ). l ++ window_calls.look (window_words.state_word places i) f ∷ []) q_looks q_base ∙ append_assoc p.looks (window_calls.raising_looks places b k) one in
     let all : List window_words.Look = p.looks ++ (window_calls.raising_looks places b k ++ one) in
     let before : with_base q.pump (b + k) all ≡ with_base p (b + k) all = ap (λ (x : views.PumpView). with_base x (b + k) all) h.pump in
     let base_is : base ≡ q.pump.base = h.raising.base_is in
@@ -109,8 +110,10 @@ pub none_given : (gs : List views.GivenOutcome) (n : ℕ) → AllByRecursion (λ
 none_given [] n a = refl
 none_given (g ∷ gs) n a =
     let lt : g.number < n = a.0 in
-    sum_by-cons (λ (h : views.GivenOutcome). cond (nat_eq h.number n) 1 0) g gs
-    ∙ (ap (λ (b : Bool). cond b 1 0 + count_by (λ (h : views.GivenOutcome). nat_eq h.number n) gs) (ne_eqb g.number n (λ e. let f : g.number ≡ n = e in absurd (omega arith))) ∙ none_given gs n a.1)
+    let head : count_by (λ (h : views.GivenOutcome). nat_eq h.number n) (g ∷ gs) ≡ cond (nat_eq g.number n) 1 0 + count_by (λ (h : views.GivenOutcome). nat_eq h.number n) gs = sum_by-cons (λ (h : views.GivenOutcome). cond (nat_eq h.number n) 1 0) g gs in
+    let here : cond {A = ℕ} (nat_eq g.number n) 1 0 ≡ 0 = ap (λ (b : Bool). cond {A = ℕ} b 1 0) (ne_eqb g.number n (λ e. let f : g.number ≡ n = e in absurd (omega arith))) in
+    let later = none_given gs n a.1 in
+    omega arith
 
 count_more : (gs : List views.GivenOutcome) (g : views.GivenOutcome) (n : ℕ) → count_by (λ (h : views.GivenOutcome). nat_eq h.number n) (gs ++ g ∷ []) ≡ count_by (λ (h : views.GivenOutcome). nat_eq h.number n) gs + cond (nat_eq g.number n) 1 0
 count_more gs g n =
@@ -124,16 +127,15 @@ given_once_more gs g once none n =
     (by_eq g.number n
     (λ e.
     let z : count_by (λ (h : views.GivenOutcome). nat_eq h.number n) gs ≡ 0 = subst (λ (i : ℕ). count_by (λ (h : views.GivenOutcome). nat_eq h.number i) gs ≡ 0) e none in
-    let y : cond (nat_eq g.number n) 1 0 ≡ 1 = ap (λ (b : Bool). cond b 1 0) (eq-eqb g.number n e) in
+    let y : cond {A = ℕ} (nat_eq g.number n) 1 0 ≡ 1 = ap (λ (b : Bool). cond {A = ℕ} b 1 0) (eq-eqb g.number n e) in
     omega arith)
     (λ ne.
     let o = once n in
-    let y : cond (nat_eq g.number n) 1 0 ≡ 0 = ap (λ (b : Bool). cond b 1 0) (ne_eqb g.number n ne) in
+    let y : cond {A = ℕ} (nat_eq g.number n) 1 0 ≡ 0 = ap (λ (b : Bool). cond {A = ℕ} b 1 0) (ne_eqb g.number n ne) in
     omega arith))
 
 -- those that do not have the number
 others_of : ℕ → List views.GivenOutcome → List views.GivenOutcome
-unfolding others_of
 others_of n [] = []
 others_of n (g ∷ gs) = cond (nat_eq g.number n) (others_of n gs) (g ∷ others_of n gs)
 
@@ -230,13 +232,6 @@ emptied places m m1 m2 taken base answered base' found i r other e =
       };
     }
 
--- the pump that found a call
-pub taking_out : (places : ℕ) (m m1 m2 : plays.Knows) (taken base answered base' : ℕ) (call : WindowCall) → seats.IsPumpSeat m taken base answered → pumping.HasRaised places m m1 base'
-    → m2 ≡ (known.known_to_pump (plays.reads places (known.pump_of m1.0) call), (window_words.place_of places taken, Some (parcel.Call call)) ∷ []) → pumping.IsTakingOut places m2 taken
-taking_out places m m1 m2 taken base answered base' call i r e =
-    let j = raised_seat places m m1 taken base answered base' i r in
-    subst (λ (z : plays.Knows). pumping.IsTakingOut places z taken) (sym e) record { call = call; me = refl; task = ap (λ (n : ℕ). known.Reads n call) (sym j.taken_is); next = j.taken_is; small = j.small; given_taken = j.given_taken }
-
 -- the pump that took a call
 pub record TookOne (places : ℕ) (m m3 : plays.Knows) (taken base answered taken' : ℕ) (call : WindowCall) : Type 0 where
   pub seat : seats.IsPumpSeat m3 taken' base answered
@@ -303,24 +298,24 @@ answered_seat m m1 taken base answered answered' n o i only e is =
 -- the place of the base was found free for its next number
 pub passed_hit : (places k : ℕ) (m m2 : plays.Knows) (base found free : ℕ) → pumping.IsRaising m base → k ≡ places → free ≡ window_words.free_for (base + places) → found ≡ free
     → MatchBool (nat_eq found (window_words.free_for ((known.pump_of m.0).pump.base + k))) ((m2 ≡ (known.known_to_pump (plays.passes k (known.pump_of m.0)), m.1)) × ((known.pump_of m.0).pump.base < window_words.last_number))
-      (m2 ≡ (known.known_to_pump (plays.pump_looked k (known.pump_of m.0) (known.pump_of m.0).pump.base found), m.1))
+    (m2 ≡ (known.known_to_pump (plays.pump_looked k (known.pump_of m.0) (known.pump_of m.0).pump.base found), m.1))
     → (m2 ≡ (known.known_to_pump (plays.passes places (known.pump_of m.0)), [])) × ((known.pump_of m.0).pump.base < window_words.last_number)
 passed_hit places k m m2 base found free r is free_is hit told =
     let p : known.PumpKnown = known.pump_of m.0 in
     let here : found ≡ window_words.free_for (p.pump.base + k) = hit ∙ (free_is ∙ ap₂ (λ (a b : ℕ). window_words.free_for (a + b)) r.base_is (sym is)) in
-    let t = match_true (nat_eq found (window_words.free_for (p.pump.base + k))) (eq-eqb found (window_words.free_for (p.pump.base + k)) here) told in
+    let t = match_true _ (nat_eq found (window_words.free_for (p.pump.base + k))) (eq-eqb found (window_words.free_for (p.pump.base + k)) here) told in
     (t.0 ∙ ap₂ (λ (i : ℕ) (l : List (ℕ × plays.Place)). (known.known_to_pump (plays.passes i p), l)) is (ap (λ (z : plays.Knows). z.1) r.me), t.1)
 
 -- it was found in use
 pub passed_miss : (places k : ℕ) (m m2 : plays.Knows) (base found free : ℕ) → pumping.IsRaising m base → k ≡ places → free ≡ window_words.free_for (base + places) → found ≢ free
     → MatchBool (nat_eq found (window_words.free_for ((known.pump_of m.0).pump.base + k))) ((m2 ≡ (known.known_to_pump (plays.passes k (known.pump_of m.0)), m.1)) × ((known.pump_of m.0).pump.base < window_words.last_number))
-      (m2 ≡ (known.known_to_pump (plays.pump_looked k (known.pump_of m.0) (known.pump_of m.0).pump.base found), m.1))
+    (m2 ≡ (known.known_to_pump (plays.pump_looked k (known.pump_of m.0) (known.pump_of m.0).pump.base found), m.1))
     → pumping.HasStopped places m m2
 passed_miss places k m m2 base found free r is free_is miss told =
     let p : known.PumpKnown = known.pump_of m.0 in
     let free' : free ≡ window_words.free_for (p.pump.base + k) = free_is ∙ ap₂ (λ (a b : ℕ). window_words.free_for (a + b)) r.base_is (sym is) in
     let other : found ≢ window_words.free_for (p.pump.base + k) = λ e. miss (e ∙ sym free') in
-    let t = match_false (nat_eq found (window_words.free_for (p.pump.base + k))) (ne_eqb found (window_words.free_for (p.pump.base + k)) other) told in
+    let t = match_false _ (nat_eq found (window_words.free_for (p.pump.base + k))) (ne_eqb found (window_words.free_for (p.pump.base + k)) other) told in
     record { found = found; other = λ e. other (e ∙ ap (λ (i : ℕ). window_words.free_for (p.pump.base + i)) (sym is)); me = t ∙ ap₂ (λ (i : ℕ) (l : List (ℕ × plays.Place)). (known.known_to_pump (plays.pump_looked i p p.pump.base found), l)) is (ap (λ (z : plays.Knows). z.1) r.me) }
 
 -- the base was raised then
@@ -337,4 +332,31 @@ pub sought : (places k : ℕ) (m m' : plays.Knows) (n found : ℕ) → pumping.I
 sought places k m m' n found s is told =
     subst (λ (i : ℕ). Sought places i [] m m' found) (sym s.next)
     (subst (λ (l : List (ℕ × plays.Place)). Sought places (plays.next_taken m) l m m' found) (ap (λ (z : plays.Knows). z.1) s.me)
-        (subst (λ (j : ℕ). Sought j (plays.next_taken m) m.1 m m' found) is told))
+    (subst (λ (j : ℕ). Sought j (plays.next_taken m) m.1 m m' found) is told))
+
+-- ---- what the load found, and the pump after the call
+
+pub found_call : (places : ℕ) (m1 m2 : plays.Knows) (n found : ℕ) → found ≡ window_words.published n → pumping.HasSought places m1 m2 n found
+    → (call : WindowCall) × (m2 ≡ (known.known_to_pump (plays.reads places (known.pump_of m1.0) call), (window_words.place_of places n, Some (parcel.Call call)) ∷ [])) × (n < window_words.last_number)
+found_call places m1 m2 n found hit s = match_true _ (nat_eq found (window_words.published n)) (eq-eqb found (window_words.published n) hit) s
+
+pub found_none : (places : ℕ) (m1 m2 : plays.Knows) (n found : ℕ) → found ≢ window_words.published n → pumping.HasSought places m1 m2 n found → m2 ≡ (known.known_to_pump (plays.pump_looked places (known.pump_of m1.0) n found), [])
+found_none places m1 m2 n found miss s = match_false _ (nat_eq found (window_words.published n)) (ne_eqb found (window_words.published n) miss) s
+
+pub took : (places : ℕ) (m m1 m2 m3 : plays.Knows) (taken base answered base' taken' found : ℕ) (call : WindowCall) → seats.IsPumpSeat m taken base answered → pumping.HasRaised places m m1 base' → found ≡ window_words.published taken
+    → pumping.HasSought places m1 m2 taken found → m3 ≡ (known.known_to_pump (plays.took (known.pump_of m2.0) call), []) → taken' ≡ taken + 1 → TookOne places m m3 taken base' answered taken' call
+took places m m1 m2 m3 taken base answered base' taken' found call i r hit s e is =
+    let t = found_call places m1 m2 taken found hit s in
+    took_one places m m1 m2 m3 taken base answered base' taken' t.0 call i r t.1 t.2 e is
+
+pub found_empty : (places : ℕ) (m m1 m2 : plays.Knows) (taken base answered base' found : ℕ) → seats.IsPumpSeat m taken base answered → pumping.HasRaised places m m1 base' → found ≢ window_words.published taken → pumping.HasSought places m1 m2 taken found
+    → Emptied places m m2 taken base' answered found
+found_empty places m m1 m2 taken base answered base' found i r miss s = emptied places m m1 m2 taken base answered base' found i r miss (found_none places m1 m2 taken found miss s)
+
+-- fewer are answered than all numbers
+pub answered_few : (m : plays.Knows) (taken base answered : ℕ) → seats.IsPumpSeat m taken base answered → answered ≤ window_words.last_number
+answered_few m taken base answered i =
+    let few = given_few taken (known.pump_of m.0).pump.given i.given_taken i.given_once in
+    let is : answered ≡ length (known.pump_of m.0).pump.given = i.answered_is in
+    let small = i.small in
+    omega arith

@@ -19,13 +19,13 @@ use Rattle.law_window.proofs.PumpSteps as pumps
 use Rattle.law_window.proofs.SeatSteps as joins
 use Rattle.law_window.proofs.Seating.{TheState, slot_value}
 
-pub match_true : {A B : Type 0} (b : Bool) → b ≡ true → MatchBool b A B → A
-match_true true e m = m
-match_true false e m = absurd (cc)
+pub match_true : {A : Type 0} (B : Type 0) (b : Bool) → b ≡ true → MatchBool b A B → A
+match_true B true e m = m
+match_true B false e m = absurd (cc)
 
-pub match_false : {A B : Type 0} (b : Bool) → b ≡ false → MatchBool b A B → B
-match_false true e m = absurd (cc)
-match_false false e m = m
+pub match_false : (A : Type 0) {B : Type 0} (b : Bool) → b ≡ false → MatchBool b A B → B
+match_false A true e m = absurd (cc)
+match_false A false e m = m
 
 -- the slot in front
 pub slot_front : (l : List (ℕ × plays.Place)) (p q : ℕ) (x : plays.Place) → l ≡ (p, x) ∷ [] → q ≡ p → l ≡ (q, x) ∷ rest l

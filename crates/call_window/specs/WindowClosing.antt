@@ -42,6 +42,12 @@ pub record HasJoined (m m' : plays.Knows) (ss : List views.SeatView) : Type 0 wh
   pub joined : length joins ≡ length ss
   pub slots : m'.1 ≡ m.1
 
+-- of all these seats those that are not left were joined
+pub record HasJoinedRest (m m' : plays.Knows) (all left : List seats.SeatOf) : Type 0 where
+  pub done : List seats.SeatOf
+  pub all_is : all ≡ left ++ done
+  pub joined : HasJoined m m' (map (λ s. s.seat) done)
+
 -- a look of a seat that knows these callers and the pump found this word
 pub record IsReading (places crew : ℕ) (cs : List known.CallerKnown) (p : known.PumpKnown) (word found : ℕ) : Type 0 where
   pub v : known.WindowKnown

@@ -18,7 +18,7 @@ pub record IsLooking (m : plays.Knows) (n : ℕ) : Type 0 where
 -- what its load found: the outcome, in the slot of its place; or not yet
 abbrev pub HasLooked : ℕ → plays.Knows → plays.Knows → ℕ → ℕ → Type 0
 HasLooked places m m' n found = MatchBool (nat_eq found (window_words.answered n))
-    ((call : WindowCall) × (o : Outcome) × (m' ≡ (known.known_to_caller (plays.got places (known.caller_of m.0) n call o), (window_words.place_of places n, Some (parcel.Outcome o)) ∷ [])))
+    ((call : WindowCall) × (o : Outcome) × (m' ≡ (known.known_to_caller (plays.got places (known.caller_of m.0) n call o), (window_words.place_of places n, Some (parcel.Outcome o)) ∷ [])) × (lives.note_in (known.caller_of m.0).seat.mine n ≡ Some (lives.Called call)))
     (m' ≡ (known.known_to_caller (plays.saw_state places (known.caller_of m.0) n found), []))
 
 -- the seat has the outcome of the number in its slot
@@ -27,5 +27,5 @@ pub record IsGetting (places : ℕ) (m : plays.Knows) (n : ℕ) : Type 0 where
   pub outcome : Outcome
   pub me : m ≡ (known.known_to_caller (known.caller_of m.0), (window_words.place_of places n, Some (parcel.Outcome outcome)) ∷ [])
   pub task : (known.caller_of m.0).task ≡ known.Got n call outcome
-  pub waits : seats.IsUnanswered n (known.caller_of m.0).seat.mine
+  pub called : lives.note_in (known.caller_of m.0).seat.mine n ≡ Some (lives.Called call)
   pub small : n ≤ window_words.last_number

@@ -1,5 +1,5 @@
 //! How a window is opened.
-ghost use Rattle.std.specs.Prelude.{◌≡◌, [], IfOk};
+ghost use Rattle.std.specs.Prelude.{◌≡◌, ◌≤◌, [], IfOk};
 ghost use Rattle.spec_window.specs.WindowWords.{window_places};
 ghost use Rattle.law_window.specs.WindowKnown.{known_at_first, known_to_pump, new_pump};
 ghost use Rattle.call_window.specs.WindowOpening.{AreFirstWords, new_seats, new_pump_of};
@@ -18,7 +18,7 @@ fn first_words(alloc: Global) -> Result<Vec<u64>, NoMemory>
     let mut words = Vec::with_capacity(alloc, places() as usize + 2)?;
     words.push(0)?;
     words.push(0)?;
-    for place in 0..places() {
+    'filling: for place in 0..places() {
         words.push(free_for(place))?;
     }
     Ok(words)
@@ -48,6 +48,7 @@ impl Window {
     /// A window with its pump and the seats of as many callers, numbered from 1: 1 to 16 of them. It takes all the memory that
     /// the window ever takes.
     pub fn open(alloc: Global, callers: u8) -> Result<(Window, Pump, List<CallerSeat>), NoMemory>
+        requires { 1 ≤ callers }
         ensures { IfOk result (λ r. (r.0.table.shared.key ≡ callers) × (r.1 ≡ new_pump_of r.0.table.shared.table_id) × (r.2 ≡ new_seats r.0.table.shared.table_id 1 callers)) }
     {
         let words = first_words(alloc)?;

@@ -1,5 +1,5 @@
 //! The window, and the seats of its callers and of its pump.
-ghost use Rattle.std.specs.Prelude.{◌≡◌, ◌+◌};
+ghost use Rattle.std.specs.Prelude.{◌≡◌, ◌+◌, ◌≤◌};
 ghost use Rattle.spec_window.specs.WindowWords.{window_places};
 
 use atomic_table::Table;
@@ -12,6 +12,7 @@ use std::marker::Model;
 pub struct Window {
     pub(crate) table: Table<Option<Parcel>, Known, u8, WindowLaw, Global>,
     ghost sized: { (table.shared.table_id.words ≡ window_places + 2) × (table.shared.table_id.slots ≡ window_places) },
+    ghost staffed: { 1 ≤ table.shared.key },
 }
 
 /// A caller's seat of a window, with which one thread submits calls and polls for their outcomes.

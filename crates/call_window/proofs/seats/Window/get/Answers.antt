@@ -5,7 +5,6 @@ use Rattle.ax_types.specs.declared.replies.Outcome.{Outcome}
 use Rattle.law_window.specs.declared.parcel.Parcel.TheVariants as parcel
 use Rattle.law_window.specs.WindowKnown as known
 use Rattle.law_window.specs.WindowPlays as plays
-use Rattle.law_window.proofs.Notes.{unanswered_called}
 use Rattle.call_window.proofs.Required as required
 use Rattle.call_window.proofs.seats.Window.get.Goals as goal
 
@@ -23,11 +22,10 @@ store-requires c =
     let m = c.args.seat.now.me in
     let d = c.requires.seat in
     let place = c.place_of-place.ensures in
-    let called = unanswered_called c.args.number (known.caller_of m.0).seat.mine d.waits in
     let me = required.with_slots m c.exchange-parcel.new.seat.me (known.known_to_caller (known.caller_of m.0)) _ _ d.me (required.exchanged_me m c.exchange-parcel.new.seat.me _ _ _ _ (ap (λ (z : plays.Knows). z.1) d.me) place.value c.exchange-parcel.ensures.3) in (
       c.exchange-parcel.ensures.0 ∙ c.requires.window,
       (let w = sized.0 in let s = c.state.ensures in let p = place.within in omega arith),
-      required.frees window_places t.key c.exchange-parcel.new.seat.id t.table_id.slots sized.1 c.exchange-parcel.new.seat.me (known.caller_of m.0) c.args.number d.call d.outcome c.free_for.result me d.task called.1
+      required.frees window_places t.key c.exchange-parcel.new.seat.id t.table_id.slots sized.1 c.exchange-parcel.new.seat.me (known.caller_of m.0) c.args.number d.call d.outcome c.free_for.result me d.task d.called
           (c.free_for.ensures ∙ ap (λ (i : ℕ). window_words.free_for (c.args.number + i)) c.places.ensures.value) c.state.result (c.state.ensures ∙ ap (λ (i : ℕ). i + 2) place.value),
     )
 

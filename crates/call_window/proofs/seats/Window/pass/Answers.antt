@@ -41,8 +41,8 @@ returns-then-found-free-clause-passed c =
     let free = c.free_for-free.ensures ∙ ap (λ (i : ℕ). window_words.free_for (c.args.base + i)) c.places.ensures.value in
     passed_miss window_places t.table_id.slots m c.load-found.new.seat.me c.args.base c.load-found.result c.free_for-free.result r sized.1 free c.if-found-free.true c.load-found.ensures.2
 
-pub returns-else-found-free-clause-passed : goal.returns-else-found-free-clause-passed
-returns-else-found-free-clause-passed c =
+pub returns-clause-passed : goal.returns-clause-passed
+returns-clause-passed c =
     let sized = c.args.self.now.sized in
     let t = c.args.self.now.table.shared in
     let m = c.args.seat.now.me in

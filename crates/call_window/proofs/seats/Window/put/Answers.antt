@@ -45,7 +45,7 @@ store-requires-2 c =
     let got = get_some p.pump.taken c.args.number a.only.taken in
     let put = c.store.ensures.2 c.args.number c.taken_out-taken.ensures in
     let first : c.store.new.seat.me ≡ (known.known_to_pump (plays.puts p c.args.number), (c.args.number % window_places, None) ∷ []) =
-        put ∙ ap₂ (λ (k : ℕ) (l : List (ℕ × plays.Place)). (known.known_to_pump (plays.puts p c.args.number), (c.args.number % k, None) ∷ l)) sized.1 (ap (λ (z : plays.Knows). z.1) a.me) in
+    put ∙ ap₂ (λ (k : ℕ) (l : List (ℕ × plays.Place)). (known.known_to_pump (plays.puts p c.args.number), (c.args.number % k, None) ∷ l)) sized.1 (ap (λ (z : plays.Knows). z.1) a.me) in
     let me = required.with_slots c.store.new.seat.me c.exchange.new.seat.me (known.known_to_pump (plays.puts p c.args.number)) _ _ first (required.exchanged_me c.store.new.seat.me c.exchange.new.seat.me _ _ _ _ (ap (λ (z : plays.Knows). z.1) first) place.value c.exchange.ensures.3) in (
       c.exchange.ensures.0 ∙ (c.store.ensures.0 ∙ c.requires.window),
       (let w = sized.0 in let s = c.state-word.ensures in let l = place.within in omega arith),
@@ -63,8 +63,8 @@ returns-clause-seat c =
     let place = c.place_of-place.ensures in
     let put = c.store.ensures.2 c.args.number c.taken_out-taken.ensures in
     let first : c.store.new.seat.me ≡ (known.known_to_pump q, (c.args.number % window_places, None) ∷ []) =
-        put ∙ ap₂ (λ (k : ℕ) (l : List (ℕ × plays.Place)). (known.known_to_pump q, (c.args.number % k, None) ∷ l)) sized.1 (ap (λ (z : plays.Knows). z.1) a.me) in
+    put ∙ ap₂ (λ (k : ℕ) (l : List (ℕ × plays.Place)). (known.known_to_pump q, (c.args.number % k, None) ∷ l)) sized.1 (ap (λ (z : plays.Knows). z.1) a.me) in
     let me = required.with_slots c.store.new.seat.me c.exchange.new.seat.me (known.known_to_pump q) _ _ first (required.exchanged_me c.store.new.seat.me c.exchange.new.seat.me _ _ _ _ (ap (λ (z : plays.Knows). z.1) first) place.value c.exchange.ensures.3) in
     let who : known.pump_of c.exchange.new.seat.me.0 ≡ q = required.pump_at c.exchange.new.seat.me q _ me in
     c.store-2.ensures.2 c.args.number c.args.outcome (ap (λ (z : known.PumpKnown). z.task) who) (ap (λ (z : plays.Knows). z.1) me ∙ ap (λ (k : ℕ). (c.args.number % k, Some (parcel.Outcome c.args.outcome)) ∷ []) (sym sized.1))
-        ∙ ap (λ (z : known.PumpKnown). (known.known_to_pump (plays.gave z c.args.number c.args.outcome), [])) who
+    ∙ ap (λ (z : known.PumpKnown). (known.known_to_pump (plays.gave z c.args.number c.args.outcome), [])) who

@@ -50,5 +50,5 @@ returns-clause-seat c =
     let out : d.call ≡ c.in-Some-Call.call = cc in
     let next_is : length (known.pump_of c.exchange-parcel.new.seat.me.0).pump.taken ≡ n = ap (λ (q : known.PumpKnown). length q.pump.taken) who in
     c.store.ensures.2 d.call (ap (λ (q : known.PumpKnown). q.task) who ∙ (d.task ∙ ap (λ (i : ℕ). known.Reads i d.call) (d.next ∙ sym next_is)))
-        (ap (λ (z : plays.Knows). z.1) me ∙ Rattle.std.proofs.Common.ap₂ (λ (i k : ℕ). (i % k, None) ∷ []) (d.next ∙ sym next_is) (sym sized.1))
-        ∙ (ap (λ (q : known.PumpKnown). (known.known_to_pump (plays.took q d.call), [])) who ∙ ap (λ (o : WindowCall). (known.known_to_pump (plays.took p o), [])) out)
+    (ap (λ (z : plays.Knows). z.1) me ∙ Rattle.std.proofs.Common.ap₂ (λ (i k : ℕ). (i % k, None) ∷ []) (d.next ∙ sym next_is) (sym sized.1))
+    ∙ (ap (λ (q : known.PumpKnown). (known.known_to_pump (plays.took q d.call), [])) who ∙ ap (λ (o : WindowCall). (known.known_to_pump (plays.took p o), [])) out)
