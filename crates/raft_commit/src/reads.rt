@@ -29,7 +29,7 @@ impl Waiting {
     fn is_ready(&self, round: u64, commit: u64) -> bool
         ensures { result ≡ progresses.is_read_ready round commit self.now }
     {
-        self.round <= round && self.place <= commit
+        self.place <= commit
     }
 
     /// Its number and its place.
