@@ -1,6 +1,6 @@
 ghost use Rattle.std.specs.Prelude.{◌≡◌, nat_le, ◌&&◌, IfOk, OnOk};
 ghost use Rattle.spec_audit.specs.HistoryCondition as history_condition;
-ghost use Rattle.law_audit_tables.specs.Signs as spec_signs;
+ghost use Rattle.law_audit_tables.specs.SignTable as spec_signs;
 
 use crate::signs::Signs;
 use ax_types::{Act, List, NoMemory};
@@ -9,7 +9,7 @@ use std::alloc::Global;
 /// The next act of a history, where it is lawful behind the acts that made the signs: whether it is, and the signs with it.
 fn next(signs: &mut Signs, timeout: u64, last: u64, time: u64, act: &Act) -> Result<bool, NoMemory>
     ensures test { IfOk result (λ is. is ≡ (nat_le last time && spec_signs.is_allowed timeout signs.old time act.now)) }
-    ensures after { OnOk result (signs.new ≡ spec_signs.signed signs.old time act.now) }
+    ensures after { OnOk result (signs.new ≡ spec_signs.signs_after signs.old time act.now) }
 {
     let is_allowed = last <= time && signs.allow(timeout, time, act);
     signs.sign(time, act)?;

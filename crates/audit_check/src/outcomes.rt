@@ -58,7 +58,7 @@ impl Known {
 
     /// Whether the number is above those of all outcomes.
     fn is_above(&self, number: u64) -> bool
-        ensures { result ≡ outcome_walk.is_above self.now.highest number }
+        ensures { result ≡ outcome_walk.exceeds self.now.highest number }
     {
         match self.highest {
             Some(highest) => highest < number,

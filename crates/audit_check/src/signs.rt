@@ -1,5 +1,5 @@
 ghost use Rattle.std.specs.Prelude.{◌≡◌, [], ◌∷◌, ◌++◌, IfOk, OnOk};
-ghost use Rattle.law_audit_tables.specs.Signs as spec_signs;
+ghost use Rattle.law_audit_tables.specs.SignTable as spec_signs;
 
 use ax_types::{Act, NoMemory};
 use std::alloc::Global;
@@ -40,7 +40,7 @@ impl Signs {
     }
 
     fn is_due(&self, timeout: u64, time: u64, session: u64) -> bool
-        ensures { result ≡ spec_signs.is_due timeout time (spec_signs.sign_of self.now session) }
+        ensures { result ≡ spec_signs.sign_is_old timeout time (spec_signs.sign_of self.now session) }
     {
         match self.of(session) {
             Some(sign) => timeout <= time.saturating_sub(sign),
@@ -64,7 +64,7 @@ impl Signs {
     }
 
     fn set(&mut self, session: u64, sign: Option<u64>)
-        ensures { self.new ≡ spec_signs.with_sign self.old session sign }
+        ensures { self.new ≡ spec_signs.with_sign_at self.old session sign }
     {
         if session == 0 || session > self.signs.len() as u64 {
             return;
@@ -80,7 +80,7 @@ impl Signs {
 
     /// One more act.
     pub fn sign(&mut self, time: u64, act: &Act) -> Result<(), NoMemory>
-        ensures { OnOk result (self.new ≡ spec_signs.signed self.old time act.now) }
+        ensures { OnOk result (self.new ≡ spec_signs.signs_after self.old time act.now) }
     {
         match act {
             Act::Open { .. } => self.push(Some(time)),

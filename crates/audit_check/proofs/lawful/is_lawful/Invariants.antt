@@ -1,5 +1,5 @@
 use Rattle.std.proofs.Common.{◌≡◌, [], drop}
-use Rattle.law_audit_tables.specs.Signs as spec_signs
+use Rattle.law_audit_tables.specs.SignTable as spec_signs
 use Rattle.audit_check.proofs.lawful.is_lawful.Given as goal
 
 abbrev pub invariant-acts : goal.invariant-acts
