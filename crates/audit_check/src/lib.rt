@@ -2,6 +2,11 @@
 #![tactic(auto)]
 
 mod commits;
+mod ends;
+mod heard;
 mod lawful;
+mod once;
 mod outcomes;
+mod same;
+mod seen;
 mod signs;
