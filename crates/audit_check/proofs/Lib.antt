@@ -1,0 +1,3 @@
+pub mod OnceLink
+pub mod HeardLink
+pub mod CourseLink

@@ -64,7 +64,7 @@ left_behind s rest x = rest
 abbrev pub takes : histories.History → ℕ → ℕ → Places → List (ℕ × digests.Seen) → Bool
 takes h s commit rest [] = is_done rest
 takes h s commit rest (e ∷ own) =
-    may_come h s (past_gap commit e.1.gap) rest e.1.item && takes h s (past_gap commit e.1.gap) (left_behind s rest e.1.item) own
+    may_come h s (past_gap commit e.1.gap) rest e.1.item && takes h s (digests.committed (past_gap commit e.1.gap) e.1.item) (left_behind s rest e.1.item) own
 
 -- ---- what is heard, by the events of the session's places
 

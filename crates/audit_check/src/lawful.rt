@@ -23,7 +23,7 @@ pub fn is_lawful(alloc: Global, timeout: u64, history: &List<(u64, Act)>) -> Res
 {
     let mut signs = Signs::with_capacity(alloc, history.len())?;
     let mut last = 0;
-    'acts: for (time, act) in history.iter() {
+    'acts: for (time, act) in history.as_slice() {
         if !next(&mut signs, timeout, last, *time, act)? {
             return Ok(false);
         }

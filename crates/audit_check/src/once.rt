@@ -4,7 +4,7 @@ ghost use Rattle.ax_types.specs.Places as lists;
 ghost use Rattle.audit_check.specs.Walks as walks;
 
 use crate::same::is_same_command;
-use crate::seen::Seen;
+use crate::seen::{Seen, committed};
 use ax_types::{Act, Item, Name, Op, WindowCall};
 
 /// The greatest commit, past what stands for items of others.
@@ -115,10 +115,11 @@ pub fn takes_effect(
     let mut commit = 0;
     let mut rest = dos;
     'own: for (_, seen) in own {
-        commit = past_gap(commit, seen.gap());
-        if !may_come(history, session, commit, rest, seen.item()) {
+        let above = past_gap(commit, seen.gap());
+        if !may_come(history, session, above, rest, seen.item()) {
             return false;
         }
+        commit = committed(above, seen.item());
         rest = left_behind(session, rest, seen.item());
     }
     rest.is_empty()

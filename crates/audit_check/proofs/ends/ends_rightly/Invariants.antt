@@ -4,4 +4,4 @@ use Rattle.audit_check.specs.Walks as walks
 use Rattle.audit_check.proofs.ends.ends_rightly.Given as goal
 
 abbrev pub invariant-own : goal.invariant-own
-invariant-own l = walks.runs l.history l.session end_walk.nothing_yet l.own ≡ walks.runs l.history l.session l.course (drop l.index l.own)
+invariant-own l = walks.runs l.history l.session end_walk.nothing_yet l.own ≡ walks.runs l.history l.session l.course (drop l.seen-index l.own)
