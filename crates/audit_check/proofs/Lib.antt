@@ -1,3 +1,4 @@
 pub mod OnceLink
 pub mod HeardLink
 pub mod CourseLink
+pub mod ActTables
