@@ -165,12 +165,7 @@ impl Course {
     }
 
     /// Where no call is expected in doubt: whether an own item may stand here.
-    fn may_stand(
-        &self,
-        history: &[(u64, Act)],
-        session: u64,
-        item: &Item,
-    ) -> Result<bool, NoMemory>
+    fn may_stand(&self, history: &[(u64, Act)], session: u64, item: &Item) -> Result<bool, NoMemory>
         ensures { IfOk result (λ is. is ≡ end_walk.may_stand history.now session self.now item.now) }
     {
         match item {

@@ -7,9 +7,6 @@ use crate::same::is_same_event;
 use crate::seen::Seen;
 use ax_types::{Event, Item};
 
-
-
-
 fn is_told_at(place: u64, rest: &[(u64, (u64, Event))]) -> bool
     ensures { result ≡ walks.is_told_at place rest.now }
 {
@@ -70,7 +67,13 @@ fn beyond<'a>(place: u64, told: &'a [(u64, (u64, Event))]) -> &'a [(u64, (u64, E
     rest
 }
 
-fn is_batch(before: u64, place: u64, prev: u64, events: &[Event], rest: &[(u64, (u64, Event))]) -> bool
+fn is_batch(
+    before: u64,
+    place: u64,
+    prev: u64,
+    events: &[Event],
+    rest: &[(u64, (u64, Event))],
+) -> bool
     ensures { result ≡ walks.is_batch before place prev events.now rest.now }
 {
     prev == before && (is_told_at(place, rest) && are_foremost(place, events, rest))
@@ -126,18 +129,16 @@ fn last_heard(session: u64, before: u64, item: &Item) -> u64
             session: hearer,
             place,
             ..
-        } => {
-            if session == *hearer {
-                *place
-            } else {
-                before
-            }
-        }
+        } => { if session == *hearer { *place } else { before } }
         _ => before,
     }
 }
 
-fn left_to_hear<'a>(session: u64, rest: &'a [(u64, (u64, Event))], item: &Item) -> &'a [(u64, (u64, Event))]
+fn left_to_hear<'a>(
+    session: u64,
+    rest: &'a [(u64, (u64, Event))],
+    item: &Item,
+) -> &'a [(u64, (u64, Event))]
     ensures { result.now ≡ walks.left_to_hear session rest.now item.now }
 {
     match item {

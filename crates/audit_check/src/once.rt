@@ -34,13 +34,7 @@ fn is_did(history: &[(u64, Act)], place: u64, name: &Name, op: &Op) -> bool
     }
 }
 
-fn may_take(
-    history: &[(u64, Act)],
-    commit: u64,
-    rest: &[(u64, u64)],
-    name: &Name,
-    op: &Op,
-) -> bool
+fn may_take(history: &[(u64, Act)], commit: u64, rest: &[(u64, u64)], name: &Name, op: &Op) -> bool
     ensures { result ≡ walks.may_take history.now commit rest.now name.now op.now }
 {
     match rest {
