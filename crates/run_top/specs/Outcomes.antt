@@ -126,7 +126,7 @@ WritesReport asked meant states before now end = OfAsked asked meant (λ json s.
 abbrev pub WritesFront : Option Bool → Result Script scripts.Refusal → List matching.StoreState → Option (List ℕ) → Option (List ℕ) → Type 0
 WritesFront asked meant states before now = OfAsked asked meant (λ json s. report_forms.WritesFront json s states before now)
 
--- the first line and the lines of all steps made but at most the last
+-- the first line and the lines of first steps of the run
 abbrev pub WritesLines : Option Bool → Result Script scripts.Refusal → Option (List ℕ) → Option (List ℕ) → Type 0
 WritesLines asked meant before now = OfAsked asked meant (λ json s. report_forms.WritesLines json s before now)
 

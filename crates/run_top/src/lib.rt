@@ -56,8 +56,8 @@ pub fn run_top<I: Source, O: Sink, S: NodeStore>(
     // After a failed write it is a front of the report of the steps that were made.
     ensures front { result ≡ Status.WriteFault → matching.AreTelling (matching.states_of S.told S.needs_load stores.old.items) → IfSome (I.content input.old)
         (λ content. outcomes.WritesFront (answers.form_asked (map string_bytes words.now)) (answers.judged (outcomes.input_bytes content)) (matching.states_of S.told S.needs_load stores.new.items) (O.content output.old) (O.content output.new)) }
-    // After want of memory nothing, or exactly the first line of a text report and the lines of all steps that were made but at most the
-    // last.
+    // After want of memory nothing was written, by when the stores were not yet run or the report is JSON, or exactly the first line of a
+    // text report and the lines of first steps of the run.
     ensures part { result ≡ Status.NoMemory →
         outcomes.IsUnwritten (answers.form_asked (map string_bytes words.now)) (outcomes.TellAlike S.told stores.old.items stores.new.items) output.old output.new
         ⊎ (matching.AreTelling (matching.states_of S.told S.needs_load stores.old.items) → IfSome (I.content input.old)

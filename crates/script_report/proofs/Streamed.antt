@@ -1,14 +1,12 @@
 -- What the sink took of a report, piece by piece.
-use Rattle.std.proofs.Common.{◌≡◌, ℕ, ◌≤◌, List, [], ◌++◌, arith, refl, ap, sym, ◌∙◌, subst, append_assoc, append-nil}
-use Rattle.std.specs.Prelude.{Bool, true, false, Option, Some, None, Result, Ok, Err, IsErrAnd}
+use Rattle.std.proofs.Common.{◌≡◌, ℕ, ◌≤◌, List, [], ◌++◌, arith, refl, ap, sym, ◌∙◌, subst, inl, inr, append_assoc, append-nil}
+use Rattle.std.specs.Prelude.{Bool, true, false, Option, Result, Ok, Err, IsErrAnd}
 use Rattle.ax_types.specs.declared.entries.Act.{Act}
 use Rattle.ax_types.specs.declared.items.Item.{Item}
 use Rattle.ax_types.specs.declared.scripts.RunEnd.{RunEnd}
-use Rattle.ax_types.specs.declared.scripts.RunEnd.TheVariants as ends
 use Rattle.ax_types.specs.declared.scripts.Script.{Script}
-use Rattle.ax_types.specs.declared.steps.KeptStep.{KeptStep}
 use Rattle.ax_io.specs.Content as ax_io_content
-use Rattle.ax_io.proofs.Fronts.{append_told-append_told, TakesFront-more, TakesFront-within}
+use Rattle.ax_io.proofs.Fronts.{append_told-append_told, TakesFront-more}
 use Rattle.spec_claims.specs.Transcript as transcripts
 use Rattle.spec_report.specs.Items as report_items
 use Rattle.spec_report.specs.Report as reports
@@ -37,13 +35,6 @@ begun_so json before mid now items head lines =
     lines ∙ ap (λ m. ax_io_content.append_told m (carrying.told_text json items)) head
     ∙ append_told-append_told before (report_forms.head_in json) (carrying.told_text json items)
 
--- a front of what was written by then is one of the report
-front_of : (json : Bool) (before now : Option (List ℕ)) (items : List Item) (history : List (ℕ × Act)) (end : RunEnd) → ax_io_content.TakesFront before now (report_forms.begun_text json items)
-    → ax_io_content.TakesFront before now (report_forms.report_in json items history end)
-front_of json before now items history end front =
-    subst (ax_io_content.TakesFront before now) (pieces json items history end)
-    (TakesFront-within (report_forms.begun_text json items) (report_forms.rest_in json items history end) front)
-
 -- before the first step
 no_steps : (s : Script) → script_runs.AreFirstSteps s []
 no_steps s = record { fared = refl; same = refl; within = none }
@@ -57,15 +48,13 @@ pub head_breaks : (json : Bool) (s : Script) (states : List matching.StoreState)
 head_breaks true s states before now r stores telling text front is = cc
 head_breaks false s states before now (Ok end) stores telling text front is = absurd is
 head_breaks false s states before now (Err e) stores telling text front is =
-    subst (λ x. report_forms.Writes false s states before now (Err x)) (sym is) (record {
+    subst (λ x. report_forms.Writes false s states before now (Err x)) (sym is) (inl (record {
       steps = [];
       first = no_steps s;
-      whole = λ e. cc;
       stores = stores;
       telling = telling;
-      end = ends.Done;
-      front = front_of false before now [] (script_runs.world_of_script s).history ends.Done (subst (ax_io_content.TakesFront before now) (sym (append-nil reports.head_text)) front);
-    })
+      front = subst (ax_io_content.TakesFront before now) (sym (append-nil reports.head_text)) front;
+    }))
 
 -- the run was given up
 given_up_so : (json : Bool) (s : Script) (states : List matching.StoreState) (before mid now : Option (List ℕ)) (e : GivenUp) → mid ≡ ax_io_content.append_told before (report_forms.head_in json)
@@ -76,16 +65,13 @@ given_up_so json s states before mid now given_up.NoMemory head h = record {
   written = begun_so json before mid now (script_runs.items_of s h.steps) head h.written;
 }
 given_up_so true s states before mid now given_up.WriteFault head h = let text = h.text in cc
-given_up_so false s states before mid now given_up.WriteFault head h = record {
+given_up_so false s states before mid now given_up.WriteFault head h = inl (record {
   steps = h.steps;
   first = h.first;
-  whole = λ e. cc;
   stores = h.stores;
   telling = h.telling;
-  end = ends.Done;
-  front = front_of false before now (script_runs.items_of s h.steps) (script_runs.ran_steps s h.steps).world.history ends.Done
-      (TakesFront-more reports.head_text (carrying.told_text false (script_runs.items_of s h.steps)) head h.front);
-}
+  front = TakesFront-more reports.head_text (carrying.told_text false (script_runs.items_of s h.steps)) head h.front;
+})
 
 pub run_breaks : (json : Bool) (s : Script) (states : List matching.StoreState) (before mid now : Option (List ℕ)) (e : GivenUp) (r : Result RunEnd GivenUp) → mid ≡ ax_io_content.append_told before (report_forms.head_in json)
     → script_runs.Leaves json s states mid now (Err e) → IsErrAnd r (λ x. x ≡ e) → report_forms.Writes json s states before now r
@@ -123,24 +109,37 @@ whole_so : (json : Bool) (s : Script) (states : List matching.StoreState) (befor
 whole_so json s states before mid told ran text head h is =
     ap (λ t. report_forms.begun_text json h.all.transcript ++ t) (is ∙ rest_is json s states mid told ran h) ∙ pieces json h.all.transcript h.all.world.history ran.end
 
+-- the whole report is that of the script's run
+reports_so : (json : Bool) (s : Script) (states : List matching.StoreState) (mid told : Option (List ℕ)) (ran : Ran) (h : script_runs.RunsScript json s states mid told ran)
+    → report_values.IsRun (record { items = ran.items.items; history = ran.history.items; end = ran.end })
+    → report_forms.ReportsRun (report_forms.report_in json) s states (report_forms.report_in json h.all.transcript h.all.world.history ran.end) ran.end
+reports_so json s states mid told ran h fits = record {
+  all = h.all;
+  ends = h.ends;
+  stores = h.stores;
+  telling = h.telling;
+  reported = refl;
+  fits = subst (λ items. report_values.IsRun (record { items = items; history = h.all.world.history; end = ran.end })) h.items
+      (subst (λ history. report_values.IsRun (record { items = ran.items.items; history = history; end = ran.end })) h.history fits);
+}
+
+short_so : (json : Bool) (s : Script) (states : List matching.StoreState) (before now : Option (List ℕ)) → report_forms.EndsShort json s states before now → report_forms.WritesFront json s states before now
+short_so true s states before now h = h
+short_so false s states before now h = inr h
+
 -- the rest was not written, or a front of it
 pub end_breaks : (json : Bool) (s : Script) (states : List matching.StoreState) (before mid told now : Option (List ℕ)) (ran : Ran) (text : List ℕ) (r : Result RunEnd GivenUp) → mid ≡ ax_io_content.append_told before (report_forms.head_in json)
     → script_runs.RunsScript json s states mid told ran → text ≡ report_forms.rest_in json ran.items.items ran.history.items ran.end → ax_io_content.TakesFront told now text
-    → IsErrAnd r (λ x. x ≡ given_up.WriteFault) → report_forms.Writes json s states before now r
-end_breaks json s states before mid told now ran text (Ok end) head h is front err = absurd err
-end_breaks json s states before mid told now ran text (Err x) head h is front err =
-    subst (λ y. report_forms.Writes json s states before now (Err y)) (sym err) (record {
-      steps = h.all.kept;
-      first = all_first json s states mid told ran h;
-      whole = λ e. h.ends.unfolds;
-      stores = subst (λ (w : worlds.World). matching.StoresMatch w.hosts states) (sym h.ends.world) h.stores;
-      telling = h.telling;
+    → report_values.IsRun (record { items = ran.items.items; history = ran.history.items; end = ran.end }) → IsErrAnd r (λ x. x ≡ given_up.WriteFault) → report_forms.Writes json s states before now r
+end_breaks json s states before mid told now ran text (Ok end) head h is front fits err = absurd err
+end_breaks json s states before mid told now ran text (Err x) head h is front fits err =
+    subst (λ y. report_forms.Writes json s states before now (Err y)) (sym err) (short_so json s states before now (record {
+      text = report_forms.report_in json h.all.transcript h.all.world.history ran.end;
       end = ran.end;
-      front = subst (λ items. ax_io_content.TakesFront before now (report_forms.report_in json items (script_runs.ran_steps s h.all.kept).world.history ran.end)) (sym h.ends.told)
-          (subst (λ (w : worlds.World). ax_io_content.TakesFront before now (report_forms.report_in json h.all.transcript w.history ran.end)) (sym h.ends.world)
-          (subst (ax_io_content.TakesFront before now) (whole_so json s states before mid told ran text head h is)
-          (TakesFront-more (report_forms.begun_text json h.all.transcript) text (begun_so json before mid told h.all.transcript head h.written) front)));
-    })
+      reports = reports_so json s states mid told ran h fits;
+      front = subst (ax_io_content.TakesFront before now) (whole_so json s states before mid told ran text head h is)
+          (TakesFront-more (report_forms.begun_text json h.all.transcript) text (begun_so json before mid told h.all.transcript head h.written) front);
+    }))
 
 -- all was written
 pub all_written : (json : Bool) (s : Script) (states : List matching.StoreState) (before mid told now : Option (List ℕ)) (ran : Ran) (text : List ℕ) → mid ≡ ax_io_content.append_told before (report_forms.head_in json)
@@ -148,15 +147,7 @@ pub all_written : (json : Bool) (s : Script) (states : List matching.StoreState)
     → report_values.IsRun (record { items = ran.items.items; history = ran.history.items; end = ran.end }) → report_forms.WritesReport json s states before now ran.end
 all_written json s states before mid told now ran text head h is put fits = record {
   text = report_forms.report_in json h.all.transcript h.all.world.history ran.end;
-  reports = record {
-    all = h.all;
-    ends = h.ends;
-    stores = h.stores;
-    telling = h.telling;
-    reported = refl;
-    fits = subst (λ items. report_values.IsRun (record { items = items; history = h.all.world.history; end = ran.end })) h.items
-        (subst (λ history. report_values.IsRun (record { items = ran.items.items; history = history; end = ran.end })) h.history fits);
-  };
+  reports = reports_so json s states mid told ran h fits;
   written = put ∙ ap (λ t. ax_io_content.append_told t text) (begun_so json before mid told h.all.transcript head h.written)
       ∙ append_told-append_told before (report_forms.begun_text json h.all.transcript) text
       ∙ ap (ax_io_content.append_told before) (whole_so json s states before mid told ran text head h is);

@@ -1,5 +1,5 @@
 -- The report of a script's run, in its two forms.
-use Rattle.std.specs.Prelude.{ℕ, ◌≡◌, Bool, true, false, Option, Result, Ok, Err, List, [], ◌++◌}
+use Rattle.std.specs.Prelude.{ℕ, ◌≡◌, ◌⊎◌, Bool, true, false, Option, Result, Ok, Err, List, [], ◌++◌}
 use Rattle.ax_io.specs.Content as ax_io_content
 use Rattle.ax_types.specs.declared.entries.Act.{Act}
 use Rattle.ax_types.specs.declared.items.Item.{Item}
@@ -53,22 +53,31 @@ pub record WritesReport (json : Bool) (s : Script) (states : List matching.Store
   pub reports : ReportsRun (report_in json) s states text end
   pub written : now ≡ ax_io_content.append_told before text
 
--- memory was wanted: of a text report exactly its first line and the lines of these first steps, which are all that were made but at most
--- the last; of JSON nothing
+-- memory was wanted: of a text report exactly its first line and the lines of these first steps; of JSON nothing
 pub record WritesLines (json : Bool) (s : Script) (before now : Option (List ℕ)) : Type 0 where
   pub steps : List KeptStep
   pub first : script_runs.AreFirstSteps s steps
   pub written : now ≡ ax_io_content.append_told before (begun_text json (script_runs.items_of s steps))
 
--- a write failed: a front of the report of these first steps, which left the stores so; of JSON they are all steps
-pub record WritesFront (json : Bool) (s : Script) (states : List matching.StoreState) (before now : Option (List ℕ)) : Type 0 where
+-- a write failed while the script ran: a front of the first line and of the lines of these first steps, which left the stores so
+pub record BreaksOff (s : Script) (states : List matching.StoreState) (before now : Option (List ℕ)) : Type 0 where
   pub steps : List KeptStep
   pub first : script_runs.AreFirstSteps s steps
-  pub whole : json ≡ true → runs.Unfolds (script_runs.world_of_script s) (runs.works_of s.lines) steps
   pub stores : matching.StoresMatch (script_runs.ran_steps s steps).world.hosts states
   pub telling : matching.AreTelling states
+  pub front : ax_io_content.TakesFront before now (begun_text false (script_runs.items_of s steps))
+
+-- a write failed behind the run: a front of its report
+pub record EndsShort (json : Bool) (s : Script) (states : List matching.StoreState) (before now : Option (List ℕ)) : Type 0 where
+  pub text : List ℕ
   pub end : RunEnd
-  pub front : ax_io_content.TakesFront before now (report_in json (script_runs.items_of s steps) (script_runs.ran_steps s steps).world.history end)
+  pub reports : ReportsRun (report_in json) s states text end
+  pub front : ax_io_content.TakesFront before now text
+
+-- a write failed: a front of the report of the steps that were made, which of JSON are all
+abbrev pub WritesFront : Bool → Script → List matching.StoreState → Option (List ℕ) → Option (List ℕ) → Type 0
+WritesFront false s states before now = BreaksOff s states before now ⊎ EndsShort false s states before now
+WritesFront true s states before now = EndsShort true s states before now
 
 abbrev pub Writes : Bool → Script → List matching.StoreState → Option (List ℕ) → Option (List ℕ) → Result RunEnd GivenUp → Type 0
 Writes json s states before now (Ok end) = WritesReport json s states before now end

@@ -112,9 +112,9 @@ half_told b rest left before after made m h next =
     }
 
 -- nothing was written of a step
-untold : (b : carrying.Beginning) (rest : List runs.Work) (before after : carrying.RunSoFar) → (after.json ≡ before.json) × (after.written ≡ before.written)
+untold : (b : carrying.Beginning) (rest : List runs.Work) (before after : carrying.RunSoFar) → carrying.IsUntold before after
     → carrying.IsRunSoFar b before rest → carrying.IsLeft b after
-untold b rest before after m h = record { made = before; rest = rest; so_far = h; form = m.0; written = m.1 }
+untold b rest before after m h = record { told = before; rest = rest; so_far = h; form = m.form; written = m.written; made = m.made }
 
 pub makes : (line : ℕ) (before after : carrying.RunSoFar) (made : Step) (went : Result Bool GivenUp) → carrying.Makes before made after went → carrying.Carries line (runs.Make made ∷ []) before after went
 makes line before after made (Ok true) m = λ b rest h.
@@ -288,11 +288,11 @@ shown_so s taken r rest h = sym (ap (λ (x : runs.Ran). transcripts.transcript x
 leaves_lines : (json : Bool) (s : Script) (taken : Option (List ℕ)) (after : carrying.RunSoFar) → after.json ≡ json → carrying.IsLeft (script_runs.beginning_of s taken) after
     → script_runs.LeavesLines json s taken after.written
 leaves_lines json s taken after form h = record {
-  steps = h.made.kept;
-  first = first_steps s taken h.made h.rest h.so_far;
+  steps = h.told.kept;
+  first = first_steps s taken h.told h.rest h.so_far;
   written = h.written ∙ h.so_far.written
-      ∙ ap (λ j. ax_io_content.append_told taken (carrying.told_text j h.made.transcript)) (sym h.form ∙ form)
-      ∙ ap (λ items. ax_io_content.append_told taken (carrying.told_text json items)) (shown_so s taken h.made h.rest h.so_far);
+      ∙ ap (λ j. ax_io_content.append_told taken (carrying.told_text j h.told.transcript)) (sym h.form ∙ form)
+      ∙ ap (λ items. ax_io_content.append_told taken (carrying.told_text json items)) (shown_so s taken h.told h.rest h.so_far);
 }
 
 leaves_front : (json : Bool) (s : Script) (states : List matching.StoreState) (taken : Option (List ℕ)) (after : carrying.RunSoFar) → after.json ≡ json → matching.StoresMatch after.world.hosts states → matching.AreTelling states
@@ -391,7 +391,11 @@ told_step json before now taken written made items (Ok x) m at told within =
       },
       within,
     )
-told_step json before now taken written made items (Err given_up.NoMemory) m at told within = (refl, told)
+told_step json before now taken written made items (Err given_up.NoMemory) m at told within = record {
+  form = refl;
+  written = told;
+  made = inr (record { last = carrying.made_so made m.outcome; same = ap (λ (w : open_worlds.OpenWorld). w.kept) m.same });
+}
 told_step json before now taken written made items (Err given_up.WriteFault) m at told within =
     let shown = items_shown before now made items m at in (
       record {
@@ -404,6 +408,13 @@ told_step json before now taken written made items (Err given_up.WriteFault) m a
       },
       within,
     )
+
+-- a step that was not made
+pub not_made : (json : Bool) (before now : open_worlds.OpenWorld) (written : Option (List ℕ)) (made : Step) (r : Result Bool GivenUp) → open_worlds.StaysShown before now → IsErrAnd r (λ x. x ≡ given_up.NoMemory)
+    → carrying.Makes (in_code.so_far json written before) made (in_code.so_far json written now) r
+not_made json before now written made (Ok went) h is = absurd is
+not_made json before now written made (Err x) h is =
+    subst (λ y. carrying.Makes (in_code.so_far json written before) made (in_code.so_far json written now) (Err y)) (sym is) (record { form = refl; written = refl; made = inl h.kept })
 
 -- ---- by what a call answered
 

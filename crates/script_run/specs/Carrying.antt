@@ -1,5 +1,5 @@
 -- A script's run as it goes: what is in hand before and after some of its jobs.
-use Rattle.std.specs.Prelude.{ℕ, ◌≡◌, ◌≤◌, Bool, true, false, Option, Some, Result, Ok, Err, List, [], ◌∷◌, ◌++◌, length, map}
+use Rattle.std.specs.Prelude.{ℕ, ◌≡◌, ◌≤◌, ◌⊎◌, Bool, true, false, Option, Some, Result, Ok, Err, List, [], ◌∷◌, ◌++◌, length, map}
 use Rattle.std.specs.List.{AllByRecursion}
 use Rattle.ax_io.specs.Content as ax_io_content
 use Rattle.ax_types.specs.declared.limits.TheConstants.{MAX_STEPS}
@@ -91,6 +91,21 @@ pub record IsStepHalfTold (before : RunSoFar) (step : Step) (after : RunSoFar) :
   pub front : ax_io_content.TakesFront before.written after.written (told_text before.json (moves.moved before.world (made_so step outcome)).items)
   pub fits : Fit before.json (moves.moved before.world (made_so step outcome)).items
 
+-- one step more was made than these
+pub record IsOneMore (told made : List KeptStep) : Type 0 where
+  pub last : KeptStep
+  pub same : made ≡ told ++ last ∷ []
+
+-- these steps were made, and at most one more
+abbrev pub AtMostOneMore : List KeptStep → List KeptStep → Type 0
+AtMostOneMore told made = (made ≡ told) ⊎ IsOneMore told made
+
+-- nothing of a step was written, whether it was made or not
+pub record IsUntold (before after : RunSoFar) : Type 0 where
+  pub form : after.json ≡ before.json
+  pub written : after.written ≡ before.written
+  pub made : AtMostOneMore before.kept after.kept
+
 -- as many steps were made as a run may have
 abbrev pub IsFull : RunSoFar → Type 0
 IsFull s = length s.kept ≡ MAX_STEPS
@@ -99,7 +114,7 @@ IsFull s = length s.kept ≡ MAX_STEPS
 abbrev pub Makes : RunSoFar → Step → RunSoFar → Result Bool GivenUp → Type 0
 Makes before step after (Ok true) = IsOneStep before step after × (length after.kept ≤ MAX_STEPS)
 Makes before step after (Ok false) = (after ≡ before) × IsFull before
-Makes before step after (Err given_up.NoMemory) = (after.json ≡ before.json) × (after.written ≡ before.written)
+Makes before step after (Err given_up.NoMemory) = IsUntold before after
 Makes before step after (Err given_up.WriteFault) = IsStepHalfTold before step after × (length after.kept ≤ MAX_STEPS)
 
 -- the run is full, and the next step that is due is of this line
@@ -111,13 +126,14 @@ pub record StopsAt (b : Beginning) (s : RunSoFar) (line : ℕ) : Type 0 where
   pub at : due.line ≡ line
   pub full : IsFull s
 
--- memory was wanted: what was written is that of a run so far
+-- memory was wanted: what was written is that of a run so far, which has all steps that were made but at most the last
 pub record IsLeft (b : Beginning) (s : RunSoFar) : Type 0 where
-  pub made : RunSoFar
+  pub told : RunSoFar
   pub rest : List runs.Work
-  pub so_far : IsRunSoFar b made rest
-  pub form : s.json ≡ made.json
-  pub written : s.written ≡ made.written
+  pub so_far : IsRunSoFar b told rest
+  pub form : s.json ≡ told.json
+  pub written : s.written ≡ told.written
+  pub made : AtMostOneMore told.kept s.kept
 
 -- a write failed: what was written is a front of what was to be written by then
 pub record IsHalfTold (b : Beginning) (s : RunSoFar) : Type 0 where

@@ -23,10 +23,11 @@ returns-in_err-rest-clause-writes g c = λ tells.
 
 pub returns-in_err-put-clause-writes : goal.returns-in_err-put-clause-writes
 returns-in_err-put-clause-writes g c = λ tells.
+    let leaves = c.in_ok-ran.ensures.leaves tells in
     lemmas.end_breaks c.args.json c.args.script.now (matching.states_of g.S.NodeStore.told g.S.NodeStore.needs_load c.run_script.new.stores.items) (g.O.Sink.content c.args.output.now) (g.O.Sink.content c.put_head.new.output) (g.O.Sink.content c.run_script.new.output) (g.O.Sink.content c.put.new.self)
-    c.in_ok-ran.ran (string_bytes c.in_ok-rest.rest) c.from_residual-in_err-put.result c.in_ok-put_head.ensures.ok (c.in_ok-ran.ensures.leaves tells) c.in_ok-rest.ensures.text
+    c.in_ok-ran.ran (string_bytes c.in_ok-rest.rest) c.from_residual-in_err-put.result c.in_ok-put_head.ensures.ok leaves c.in_ok-rest.ensures.text
     (subst (ax_io_content.TakesFront (g.O.Sink.content c.run_script.new.output) (g.O.Sink.content c.put.new.self)) c.as_bytes.ensures.value c.in_err-put.ensures.failed)
-    c.from_residual-in_err-put.ensures.1
+    (c.in_ok-rest.ensures.fits (subst (carrying.Fit c.args.json) (sym leaves.items) leaves.fits)) c.from_residual-in_err-put.ensures.1
 
 pub returns-clause-writes : goal.returns-clause-writes
 returns-clause-writes g c = λ tells.
