@@ -497,7 +497,7 @@ fn made_pending(number: Option<u64>, sent: Option<(End, End, PayloadKind)>) -> O
 
 /// The ends of a packet's way, and its kind, of three words.
 fn sent(words: &[&[u8]]) -> Option<(End, End, PayloadKind)>
-    ensures { result ≡ read_answers.sent_from (behind.words_behind words.now) }
+    ensures { result ≡ read_answers.packet_sent_from (behind.words_behind words.now) }
 {
     match words {
         [from, to, kind] => sent_packet(from, to, kind),

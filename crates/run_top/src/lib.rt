@@ -43,7 +43,7 @@ pub fn run_top<I: Source, O: Sink, S: NodeStore>(
     ensures no_read_fault { result ≢ Status.ReadFault → I.faults input.new ≡ I.faults input.old }
     ensures no_write_fault { result ≢ Status.WriteFault → O.faults output.new ≡ O.faults output.old }
     // A call in which neither count of faults rose answers the script, if there is memory.
-    ensures complete { outcomes.IsAsked (answers.form_asked (map string_bytes words.now))
+    ensures complete { outcomes.AsksRun (answers.form_asked (map string_bytes words.now))
         → ¬ counts.Rose (I.faults input.old) (I.faults input.new) → ¬ counts.Rose (O.faults output.old) (O.faults output.new)
         → IfSome (I.content input.old) (λ content. outcomes.AnswersInput (answers.judged (outcomes.input_bytes content)) result) }
 
@@ -51,16 +51,16 @@ pub fn run_top<I: Source, O: Sink, S: NodeStore>(
     ensures sink_count { O.faults output.old ≤ O.faults output.new }
 
     // Where all stores tell what they keep, what is written is the report of the run that the definitions give for the script.
-    ensures written { matching.AreTelling (matching.states_of S.told S.needs_load stores.old.items) → outcomes.IfEnded result (λ end. IfSome (I.content input.old)
-        (λ content. outcomes.WritesReport (answers.form_asked (map string_bytes words.now)) (answers.judged (outcomes.input_bytes content)) (matching.states_of S.told S.needs_load stores.new.items) (O.content output.old) (O.content output.new) end)) }
+    ensures written { matching.AreTelling (matching.store_states_of S.told S.needs_load stores.old.items) → outcomes.IfEnded result (λ end. IfSome (I.content input.old)
+        (λ content. outcomes.WritesReport (answers.form_asked (map string_bytes words.now)) (answers.judged (outcomes.input_bytes content)) (matching.store_states_of S.told S.needs_load stores.new.items) (O.content output.old) (O.content output.new) end)) }
     // After a failed write it is a front of the report of the steps that were made.
-    ensures front { result ≡ Status.WriteFault → matching.AreTelling (matching.states_of S.told S.needs_load stores.old.items) → IfSome (I.content input.old)
-        (λ content. outcomes.WritesFront (answers.form_asked (map string_bytes words.now)) (answers.judged (outcomes.input_bytes content)) (matching.states_of S.told S.needs_load stores.new.items) (O.content output.old) (O.content output.new)) }
+    ensures front { result ≡ Status.WriteFault → matching.AreTelling (matching.store_states_of S.told S.needs_load stores.old.items) → IfSome (I.content input.old)
+        (λ content. outcomes.WritesFront (answers.form_asked (map string_bytes words.now)) (answers.judged (outcomes.input_bytes content)) (matching.store_states_of S.told S.needs_load stores.new.items) (O.content output.old) (O.content output.new)) }
     // After want of memory nothing was written, by when the stores were not yet run or the report is JSON, or exactly the first line of a
     // text report and the lines of first steps of the run.
     ensures part { result ≡ Status.NoMemory →
         outcomes.IsUnwritten (answers.form_asked (map string_bytes words.now)) (outcomes.TellAlike S.told stores.old.items stores.new.items) output.old output.new
-        ⊎ (matching.AreTelling (matching.states_of S.told S.needs_load stores.old.items) → IfSome (I.content input.old)
+        ⊎ (matching.AreTelling (matching.store_states_of S.told S.needs_load stores.old.items) → IfSome (I.content input.old)
         (λ content. outcomes.WritesLines (answers.form_asked (map string_bytes words.now)) (answers.judged (outcomes.input_bytes content)) (O.content output.old) (O.content output.new))) }
     // At every other answer the sink was not called; nor was the source for words that are refused, or
     // a store where no script was taken.
@@ -71,8 +71,8 @@ pub fn run_top<I: Source, O: Sink, S: NodeStore>(
     ensures source { source_rests.LeavesSource (I.content input.old) (I.content input.new) result }
 
     // The headline: what was written is faithful to one history and hands out once, and the stores keep that history.
-    ensures headline { matching.AreTelling (matching.states_of S.told S.needs_load stores.old.items) → outcomes.IfEnded result (λ end. IfSome (I.content input.old)
-        (λ content. outcomes.StandsBy (answers.form_asked (map string_bytes words.now)) (answers.judged (outcomes.input_bytes content)) (matching.states_of S.told S.needs_load stores.new.items) (O.content output.old) (O.content output.new) end)) }
+    ensures headline { matching.AreTelling (matching.store_states_of S.told S.needs_load stores.old.items) → outcomes.IfEnded result (λ end. IfSome (I.content input.old)
+        (λ content. outcomes.StandsBy (answers.form_asked (map string_bytes words.now)) (answers.judged (outcomes.input_bytes content)) (matching.store_states_of S.told S.needs_load stores.new.items) (O.content output.old) (O.content output.new) end)) }
 {
     let request = match request(alloc, words, input, stores) {
         Ok(request) => request,

@@ -28,7 +28,7 @@ pub struct Request {
 
 /// Accepts the command `run`, and no other yet. Answers whether the report is asked for as JSON.
 fn accept(alloc: Global, words: &[String]) -> Result<bool, WordsRefused>
-    ensures { outcomes.Takes (answers.form_asked (map string_bytes words.now)) result }
+    ensures { outcomes.TakesWords (answers.form_asked (map string_bytes words.now)) result }
 {
     match command_of(alloc, words)? {
         Command::Run { json } => Ok(json),
@@ -69,7 +69,7 @@ pub fn request<I: Source, S: NodeStore>(
     ensures form { IfOk result (λ r. answers.form_asked (map string_bytes words.now) ≡ IsSome r.json) }
     ensures read { IfOk result (λ r. IfSome (I.content input.old) (λ content. answers.judged (outcomes.input_bytes content) ≡ IsGood r.script)) }
     ensures within { IfOk result (λ r. script_limits.IsScriptWithin r.script) }
-    ensures opened { IfOk result (λ r. matching.StoresMatch (script_runs.world_of_script r.script).hosts (matching.states_of S.told S.needs_load stores.new.items)) }
+    ensures opened { IfOk result (λ r. matching.StoresMatch (script_runs.world_of_script r.script).hosts (matching.store_states_of S.told S.needs_load stores.new.items)) }
 {
     let json = accept(alloc, words)?;
     let bytes = read_up_to(alloc, input, MAX_SCRIPT + 1)?;

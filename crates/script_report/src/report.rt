@@ -68,9 +68,9 @@ pub fn report_of_script<S: NodeStore, O: Sink>(
     requires clients { script.now.clients ≤ MAX_CLIENTS }
     requires low { 1 ≤ script.now.timeout }
     requires high { script.now.timeout ≤ MAX_TIMEOUT }
-    requires stores { matching.StoresMatch (script_runs.world_of_script script.now).hosts (matching.states_of S.told S.needs_load stores.old.items) }
-    ensures writes { matching.AreTelling (matching.states_of S.told S.needs_load stores.old.items)
-        → report_forms.Writes json script.now (matching.states_of S.told S.needs_load stores.new.items) (O.content output.old) (O.content output.new) result }
+    requires stores { matching.StoresMatch (script_runs.world_of_script script.now).hosts (matching.store_states_of S.told S.needs_load stores.old.items) }
+    ensures writes { matching.AreTelling (matching.store_states_of S.told S.needs_load stores.old.items)
+        → report_forms.Writes json script.now (matching.store_states_of S.told S.needs_load stores.new.items) (O.content output.old) (O.content output.new) result }
     ensures count { in_code.Counts (O.faults output.old) (O.faults output.new) result }
     ensures silent { report_forms.IfJsonLeft json result (output.new ≡ output.old) }
 {

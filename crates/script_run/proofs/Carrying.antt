@@ -128,7 +128,7 @@ makes line before after made (Ok false) m = λ b rest h. record {
   due = record { line = line; step = made; left = rest };
   next = refl;
   at = refl;
-  full = subst carrying.IsFull (sym m.0) m.1;
+  full = subst carrying.IsAtLimit (sym m.0) m.1;
 }
 makes line before after made (Err given_up.NoMemory) m = λ b rest h. untold b (record { line = line; job = runs.Make made } ∷ rest) before after m h
 makes line before after made (Err given_up.WriteFault) m = λ b rest h.
@@ -159,7 +159,7 @@ delivery b line rest before number o within up may fits h =
     fits within
 
 -- one delivery, behind which all others come
-pub delivers : (before after : carrying.RunSoFar) (number : ℕ) → worlds.flush_next before.world ≡ Some number → carrying.Makes before (step.Deliver number) after (Ok true) → carrying.LeadsOn before after
+pub delivers : (before after : carrying.RunSoFar) (number : ℕ) → worlds.flush_next before.world ≡ Some number → carrying.Makes before (step.Deliver number) after (Ok true) → carrying.DeliversOn before after
 delivers before after number up m = λ line last went later b rest h.
     later b rest (subst (λ s. carrying.IsRunSoFar b s (record { line = line; job = runs.Deliver_all } ∷ rest)) (sym m.0.same)
     (delivery b line rest before number m.0.outcome (subst (λ (s : carrying.RunSoFar). length s.kept ≤ MAX_STEPS) m.0.same m.1) up m.0.may m.0.fits h))
@@ -183,17 +183,17 @@ stops line before after number (Ok false) end up m = λ b rest h. record {
   due = record { line = line; step = step.Deliver number; left = record { line = line; job = runs.Deliver_all } ∷ rest };
   next = subst (λ (s : carrying.RunSoFar). runs.next_of s.world (record { line = line; job = runs.Deliver_all } ∷ rest) ≡ Some (record { line = line; step = step.Deliver number; left = record { line = line; job = runs.Deliver_all } ∷ rest })) (sym m.0) (due_delivery before.world line number rest up);
   at = refl;
-  full = subst carrying.IsFull (sym m.0) m.1;
+  full = subst carrying.IsAtLimit (sym m.0) m.1;
 }
 stops line before after number (Err given_up.NoMemory) end up m = λ b rest h. untold b (record { line = line; job = runs.Deliver_all } ∷ rest) before after m h
 stops line before after number (Err given_up.WriteFault) end up m = λ b rest h.
     half_told b (record { line = line; job = runs.Deliver_all } ∷ rest) (record { line = line; job = runs.Deliver_all } ∷ rest) before after (step.Deliver number) m.0 h
     (delivery b line rest before number m.0.outcome (subst (λ (s : carrying.RunSoFar). length s.kept ≤ MAX_STEPS) m.0.same m.1) up m.0.may m.0.fits h)
 
-pub leads_by_none : (s : carrying.RunSoFar) → carrying.LeadsOn s s
+pub leads_by_none : (s : carrying.RunSoFar) → carrying.DeliversOn s s
 leads_by_none s = λ line after went later. later
 
-pub leads_further : (a b c : carrying.RunSoFar) → carrying.LeadsOn a b → carrying.LeadsOn b c → carrying.LeadsOn a c
+pub leads_further : (a b c : carrying.RunSoFar) → carrying.DeliversOn a b → carrying.DeliversOn b c → carrying.DeliversOn a c
 leads_further a b c f g = λ line after went later. f line after went (g line after went later)
 
 -- jobs behind jobs
@@ -371,14 +371,14 @@ abbrev pub after_telling : Result (Unit {0}) GivenUp → Result Bool GivenUp
 after_telling (Ok x) = Ok true
 after_telling (Err e) = Err e
 
-items_shown : (before now : open_worlds.OpenWorld) (made : Step) (items : List Item) (m : open_worlds.IsStep before made now) → items ≡ drop (length before.transcript) now.transcript
+items_shown : (before now : open_worlds.OpenWorld) (made : Step) (items : List Item) (m : open_worlds.MakesStep before made now) → items ≡ drop (length before.transcript) now.transcript
     → items ≡ (moves.moved before.world (carrying.made_so made m.outcome)).items
 items_shown before now made items m at =
     at ∙ ap (λ (w : open_worlds.OpenWorld). drop (length before.transcript) w.transcript) m.same
     ∙ drop_at before.transcript (moves.moved before.world (carrying.made_so made m.outcome)).items (length before.transcript) refl
 
 pub told_step : (json : Bool) (before now : open_worlds.OpenWorld) (taken written : Option (List ℕ)) (made : Step) (items : List Item) (r : Result (Unit {0}) GivenUp)
-    → open_worlds.IsStep before made now → items ≡ drop (length before.transcript) now.transcript → carrying.Tells json items taken written r → length now.kept ≤ MAX_STEPS
+    → open_worlds.MakesStep before made now → items ≡ drop (length before.transcript) now.transcript → carrying.Tells json items taken written r → length now.kept ≤ MAX_STEPS
     → carrying.Makes (in_code.so_far json taken before) made (in_code.so_far json written now) (after_telling r)
 told_step json before now taken written made items (Ok x) m at told within =
     let shown = items_shown before now made items m at in (
@@ -386,7 +386,7 @@ told_step json before now taken written made items (Ok x) m at told within =
         outcome = m.outcome;
         may = m.may;
         same = ap (in_code.so_far json written) m.same
-            ∙ ap (λ w. in_code.so_far json w (open_worlds.stepped before (carrying.made_so made m.outcome))) (told.0 ∙ ap (λ is. ax_io_content.append_told taken (carrying.told_text json is)) shown);
+            ∙ ap (λ w. in_code.so_far json w (open_worlds.one_step_on before (carrying.made_so made m.outcome))) (told.0 ∙ ap (λ is. ax_io_content.append_told taken (carrying.told_text json is)) shown);
         fits = subst (carrying.Fit json) shown told.1;
       },
       within,
@@ -423,15 +423,15 @@ pub passes : (r : Result Bool GivenUp) (e : GivenUp) (P : Result Bool GivenUp �
 passes (Ok went) e P is h = absurd is
 passes (Err x) e P is h = subst (λ y. P (Err y)) (sym is) h
 
-pub delivered_on : (before mid : carrying.RunSoFar) (number : ℕ) (went : Bool) (start : carrying.RunSoFar) → carrying.LeadsOn start before → worlds.flush_next before.world ≡ Some number
-    → went ≡ true → carrying.Makes before (step.Deliver number) mid (Ok went) → carrying.LeadsOn start mid
+pub delivered_on : (before mid : carrying.RunSoFar) (number : ℕ) (went : Bool) (start : carrying.RunSoFar) → carrying.DeliversOn start before → worlds.flush_next before.world ≡ Some number
+    → went ≡ true → carrying.Makes before (step.Deliver number) mid (Ok went) → carrying.DeliversOn start mid
 delivered_on before mid number went start leads up e m = leads_further start before mid leads (delivers before mid number up (subst (λ w. carrying.Makes before (step.Deliver number) mid (Ok w)) e m))
 
-pub delivery_stops : (before after : carrying.RunSoFar) (number : ℕ) (went : Result Bool GivenUp) (start : carrying.RunSoFar) (line : ℕ) → carrying.LeadsOn start before → worlds.flush_next before.world ≡ Some number
+pub delivery_stops : (before after : carrying.RunSoFar) (number : ℕ) (went : Result Bool GivenUp) (start : carrying.RunSoFar) (line : ℕ) → carrying.DeliversOn start before → worlds.flush_next before.world ≡ Some number
     → IsEnd went → carrying.Makes before (step.Deliver number) after went → carrying.Carries line (runs.Deliver_all ∷ []) start after went
 delivery_stops before after number went start line leads up end m = leads line after went (stops line before after number went end up m)
 
-pub deliveries_end : (start now : carrying.RunSoFar) (line : ℕ) → carrying.LeadsOn start now → worlds.flush_next now.world ≡ None → carrying.Carries line (runs.Deliver_all ∷ []) start now (Ok true)
+pub deliveries_end : (start now : carrying.RunSoFar) (line : ℕ) → carrying.DeliversOn start now → worlds.flush_next now.world ≡ None → carrying.Carries line (runs.Deliver_all ∷ []) start now (Ok true)
 deliveries_end start now line leads none = leads line now (Ok true) (rests line now none)
 
 pub made_then : (line : ℕ) (before mid after : carrying.RunSoFar) (made : Step) (jobs : List runs.Job) (first : Bool) (went : Result Bool GivenUp) → first ≡ true → carrying.Makes before made mid (Ok first)

@@ -107,13 +107,13 @@ pub record IsUntold (before after : RunSoFar) : Type 0 where
   pub made : AtMostOneMore before.kept after.kept
 
 -- as many steps were made as a run may have
-abbrev pub IsFull : RunSoFar → Type 0
-IsFull s = length s.kept ≡ MAX_STEPS
+abbrev pub IsAtLimit : RunSoFar → Type 0
+IsAtLimit s = length s.kept ≡ MAX_STEPS
 
 -- a step was made; or none, since the run is full; or the run was given up: then no line of the step was written, or a front of its lines
 abbrev pub Makes : RunSoFar → Step → RunSoFar → Result Bool GivenUp → Type 0
 Makes before step after (Ok true) = IsOneStep before step after × (length after.kept ≤ MAX_STEPS)
-Makes before step after (Ok false) = (after ≡ before) × IsFull before
+Makes before step after (Ok false) = (after ≡ before) × IsAtLimit before
 Makes before step after (Err given_up.NoMemory) = IsUntold before after
 Makes before step after (Err given_up.WriteFault) = IsStepHalfTold before step after × (length after.kept ≤ MAX_STEPS)
 
@@ -124,7 +124,7 @@ pub record StopsAt (b : Beginning) (s : RunSoFar) (line : ℕ) : Type 0 where
   pub due : runs.Next
   pub next : runs.next_of s.world rest ≡ Some due
   pub at : due.line ≡ line
-  pub full : IsFull s
+  pub full : IsAtLimit s
 
 -- memory was wanted: what was written is that of a run so far, which has all steps that were made but at most the last
 pub record IsLeft (b : Beginning) (s : RunSoFar) : Type 0 where
@@ -161,8 +161,8 @@ abbrev pub Carries : ℕ → List runs.Job → RunSoFar → RunSoFar → Result 
 Carries line jobs before after went = (b : Beginning) (rest : List runs.Work) → IsRunSoFar b before (works_at line jobs ++ rest) → Carried b after line rest went
 
 -- deliveries so far: whatever the deliveries that come lead to, all of them lead to
-abbrev pub LeadsOn : RunSoFar → RunSoFar → Type 0
-LeadsOn before now = (line : ℕ) (after : RunSoFar) (went : Result Bool GivenUp)
+abbrev pub DeliversOn : RunSoFar → RunSoFar → Type 0
+DeliversOn before now = (line : ℕ) (after : RunSoFar) (went : Result Bool GivenUp)
     → Carries line (runs.Deliver_all ∷ []) now after went → Carries line (runs.Deliver_all ∷ []) before after went
 
 -- lines of a script were run, or the run stopped at one of them, or it was given up

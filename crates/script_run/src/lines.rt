@@ -24,10 +24,10 @@ fn make<S: NodeStore, O: Sink>(
     made: &Step,
     filters: &Filters,
 ) -> Result<bool, GivenUp>
-    requires ready { in_code.IsReady world.old (matching.states_of S.told S.needs_load stores.old.items) }
-    ensures makes { matching.AreTelling (matching.states_of S.told S.needs_load stores.old.items)
+    requires ready { in_code.MayGoOn world.old (matching.store_states_of S.told S.needs_load stores.old.items) }
+    ensures makes { matching.AreTelling (matching.store_states_of S.told S.needs_load stores.old.items)
         → carrying.Makes (in_code.so_far json (O.content output.old) world.old) made.now (in_code.so_far json (O.content output.new) world.new) result }
-    ensures ready { in_code.UnlessNoMemory result (in_code.StaysReady (matching.states_of S.told S.needs_load stores.old.items) world.new (matching.states_of S.told S.needs_load stores.new.items)) }
+    ensures ready { in_code.UnlessNoMemory result (in_code.StaysReady (matching.store_states_of S.told S.needs_load stores.old.items) world.new (matching.store_states_of S.told S.needs_load stores.new.items)) }
     ensures sink { in_code.LeavesSink json O.faults output.old output.new result }
     ensures grows { IfOk result (λ went. went ≡ true → length world.new.kept ≡ length world.old.kept + 1) }
 {
@@ -50,10 +50,10 @@ fn deliver<S: NodeStore, O: Sink>(
     number: u64,
     filters: &Filters,
 ) -> Result<bool, GivenUp>
-    requires ready { in_code.IsReady world.old (matching.states_of S.told S.needs_load stores.old.items) }
-    ensures makes { matching.AreTelling (matching.states_of S.told S.needs_load stores.old.items)
+    requires ready { in_code.MayGoOn world.old (matching.store_states_of S.told S.needs_load stores.old.items) }
+    ensures makes { matching.AreTelling (matching.store_states_of S.told S.needs_load stores.old.items)
         → carrying.Makes (in_code.so_far json (O.content output.old) world.old) (step.Deliver number) (in_code.so_far json (O.content output.new) world.new) result }
-    ensures ready { in_code.UnlessNoMemory result (in_code.StaysReady (matching.states_of S.told S.needs_load stores.old.items) world.new (matching.states_of S.told S.needs_load stores.new.items)) }
+    ensures ready { in_code.UnlessNoMemory result (in_code.StaysReady (matching.store_states_of S.told S.needs_load stores.old.items) world.new (matching.store_states_of S.told S.needs_load stores.new.items)) }
     ensures sink { in_code.LeavesSink json O.faults output.old output.new result }
     ensures grows { IfOk result (λ went. went ≡ true → length world.new.kept ≡ length world.old.kept + 1) }
 {
@@ -70,10 +70,10 @@ fn beat<S: NodeStore, O: Sink>(
     node: NodeId,
     filters: &Filters,
 ) -> Result<bool, GivenUp>
-    requires ready { in_code.IsReady world.old (matching.states_of S.told S.needs_load stores.old.items) }
-    ensures makes { matching.AreTelling (matching.states_of S.told S.needs_load stores.old.items)
+    requires ready { in_code.MayGoOn world.old (matching.store_states_of S.told S.needs_load stores.old.items) }
+    ensures makes { matching.AreTelling (matching.store_states_of S.told S.needs_load stores.old.items)
         → carrying.Makes (in_code.so_far json (O.content output.old) world.old) (step.Beat node) (in_code.so_far json (O.content output.new) world.new) result }
-    ensures ready { in_code.UnlessNoMemory result (in_code.StaysReady (matching.states_of S.told S.needs_load stores.old.items) world.new (matching.states_of S.told S.needs_load stores.new.items)) }
+    ensures ready { in_code.UnlessNoMemory result (in_code.StaysReady (matching.store_states_of S.told S.needs_load stores.old.items) world.new (matching.store_states_of S.told S.needs_load stores.new.items)) }
     ensures sink { in_code.LeavesSink json O.faults output.old output.new result }
     ensures grows { IfOk result (λ went. went ≡ true → length world.new.kept ≡ length world.old.kept + 1) }
 {
@@ -90,10 +90,10 @@ fn deliver_all<S: NodeStore, O: Sink>(
     json: bool,
     filters: &Filters,
 ) -> Result<bool, GivenUp>
-    requires ready { in_code.IsReady world.old (matching.states_of S.told S.needs_load stores.old.items) }
-    ensures carries { matching.AreTelling (matching.states_of S.told S.needs_load stores.old.items)
+    requires ready { in_code.MayGoOn world.old (matching.store_states_of S.told S.needs_load stores.old.items) }
+    ensures carries { matching.AreTelling (matching.store_states_of S.told S.needs_load stores.old.items)
         → in_code.CarriesOut (runs.Deliver_all ∷ []) (in_code.so_far json (O.content output.old) world.old) (in_code.so_far json (O.content output.new) world.new) result }
-    ensures ready { in_code.UnlessNoMemory result (in_code.StaysReady (matching.states_of S.told S.needs_load stores.old.items) world.new (matching.states_of S.told S.needs_load stores.new.items)) }
+    ensures ready { in_code.UnlessNoMemory result (in_code.StaysReady (matching.store_states_of S.told S.needs_load stores.old.items) world.new (matching.store_states_of S.told S.needs_load stores.new.items)) }
     ensures sink { in_code.LeavesSink json O.faults output.old output.new result }
 {
     'packets: while let Some(number) = world.flush_next() {
@@ -114,10 +114,10 @@ fn beat_and_deliver<S: NodeStore, O: Sink>(
     node: NodeId,
     filters: &Filters,
 ) -> Result<bool, GivenUp>
-    requires ready { in_code.IsReady world.old (matching.states_of S.told S.needs_load stores.old.items) }
-    ensures carries { matching.AreTelling (matching.states_of S.told S.needs_load stores.old.items)
+    requires ready { in_code.MayGoOn world.old (matching.store_states_of S.told S.needs_load stores.old.items) }
+    ensures carries { matching.AreTelling (matching.store_states_of S.told S.needs_load stores.old.items)
         → in_code.CarriesOut (in_code.beat_jobs node) (in_code.so_far json (O.content output.old) world.old) (in_code.so_far json (O.content output.new) world.new) result }
-    ensures ready { in_code.UnlessNoMemory result (in_code.StaysReady (matching.states_of S.told S.needs_load stores.old.items) world.new (matching.states_of S.told S.needs_load stores.new.items)) }
+    ensures ready { in_code.UnlessNoMemory result (in_code.StaysReady (matching.store_states_of S.told S.needs_load stores.old.items) world.new (matching.store_states_of S.told S.needs_load stores.new.items)) }
     ensures sink { in_code.LeavesSink json O.faults output.old output.new result }
 {
     if !beat(world, stores, output, text, json, node, filters)? {
@@ -137,10 +137,10 @@ fn settle<S: NodeStore, O: Sink>(
     node: NodeId,
     filters: &Filters,
 ) -> Result<bool, GivenUp>
-    requires ready { in_code.IsReady world.old (matching.states_of S.told S.needs_load stores.old.items) }
-    ensures carries { matching.AreTelling (matching.states_of S.told S.needs_load stores.old.items)
+    requires ready { in_code.MayGoOn world.old (matching.store_states_of S.told S.needs_load stores.old.items) }
+    ensures carries { matching.AreTelling (matching.store_states_of S.told S.needs_load stores.old.items)
         → in_code.CarriesOut (in_code.settle_jobs node) (in_code.so_far json (O.content output.old) world.old) (in_code.so_far json (O.content output.new) world.new) result }
-    ensures ready { in_code.UnlessNoMemory result (in_code.StaysReady (matching.states_of S.told S.needs_load stores.old.items) world.new (matching.states_of S.told S.needs_load stores.new.items)) }
+    ensures ready { in_code.UnlessNoMemory result (in_code.StaysReady (matching.store_states_of S.told S.needs_load stores.old.items) world.new (matching.store_states_of S.told S.needs_load stores.new.items)) }
     ensures sink { in_code.LeavesSink json O.faults output.old output.new result }
 {
     if !deliver_all(world, stores, output, text, json, filters)? {
@@ -162,10 +162,10 @@ fn run_line<S: NodeStore, O: Sink>(
     line: &Line,
     filters: &Filters,
 ) -> Result<bool, GivenUp>
-    requires ready { in_code.IsReady world.old (matching.states_of S.told S.needs_load stores.old.items) }
-    ensures carries { matching.AreTelling (matching.states_of S.told S.needs_load stores.old.items)
+    requires ready { in_code.MayGoOn world.old (matching.store_states_of S.told S.needs_load stores.old.items) }
+    ensures carries { matching.AreTelling (matching.store_states_of S.told S.needs_load stores.old.items)
         → in_code.CarriesOut (runs.jobs_of line.now) (in_code.so_far json (O.content output.old) world.old) (in_code.so_far json (O.content output.new) world.new) result }
-    ensures ready { in_code.UnlessNoMemory result (in_code.StaysReady (matching.states_of S.told S.needs_load stores.old.items) world.new (matching.states_of S.told S.needs_load stores.new.items)) }
+    ensures ready { in_code.UnlessNoMemory result (in_code.StaysReady (matching.store_states_of S.told S.needs_load stores.old.items) world.new (matching.store_states_of S.told S.needs_load stores.new.items)) }
     ensures sink { in_code.LeavesSink json O.faults output.old output.new result }
 {
     match line {
@@ -185,10 +185,10 @@ pub(crate) fn run_lines<S: NodeStore, O: Sink>(
     lines: &[(u64, Line)],
     filters: &Filters,
 ) -> Result<RunEnd, GivenUp>
-    requires ready { in_code.IsReady world.old (matching.states_of S.told S.needs_load stores.old.items) }
-    ensures runs { matching.AreTelling (matching.states_of S.told S.needs_load stores.old.items)
+    requires ready { in_code.MayGoOn world.old (matching.store_states_of S.told S.needs_load stores.old.items) }
+    ensures runs { matching.AreTelling (matching.store_states_of S.told S.needs_load stores.old.items)
         → carrying.RunsLines lines.now (in_code.so_far json (O.content output.old) world.old) (in_code.so_far json (O.content output.new) world.new) result }
-    ensures ready { in_code.UnlessNoMemory result (in_code.StaysReady (matching.states_of S.told S.needs_load stores.old.items) world.new (matching.states_of S.told S.needs_load stores.new.items)) }
+    ensures ready { in_code.UnlessNoMemory result (in_code.StaysReady (matching.store_states_of S.told S.needs_load stores.old.items) world.new (matching.store_states_of S.told S.needs_load stores.new.items)) }
     ensures sink { in_code.LeavesSink json O.faults output.old output.new result }
 {
     'lines: for entry in lines {

@@ -38,9 +38,9 @@ pub fn run_script<S: NodeStore, O: Sink>(
     requires clients { script.now.clients ≤ MAX_CLIENTS }
     requires low { 1 ≤ script.now.timeout }
     requires high { script.now.timeout ≤ MAX_TIMEOUT }
-    requires stores { matching.StoresMatch (script_runs.world_of_script script.now).hosts (matching.states_of S.told S.needs_load stores.old.items) }
-    ensures leaves { matching.AreTelling (matching.states_of S.told S.needs_load stores.old.items)
-        → script_runs.Leaves json script.now (matching.states_of S.told S.needs_load stores.new.items) (O.content output.old) (O.content output.new) result }
+    requires stores { matching.StoresMatch (script_runs.world_of_script script.now).hosts (matching.store_states_of S.told S.needs_load stores.old.items) }
+    ensures leaves { matching.AreTelling (matching.store_states_of S.told S.needs_load stores.old.items)
+        → script_runs.Leaves json script.now (matching.store_states_of S.told S.needs_load stores.new.items) (O.content output.old) (O.content output.new) result }
     ensures sink { in_code.LeavesSink json O.faults output.old output.new result }
 {
     let mut world = World::open(alloc, script.nodes, script.clients, script.timeout)?;

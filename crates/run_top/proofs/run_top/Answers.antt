@@ -13,7 +13,7 @@ use Rattle.run_top.proofs.run_top.Goals as goal
 pub returns-in-Ok-report_of_script-clause-headline : goal.returns-in-Ok-report_of_script-clause-headline
 returns-in-Ok-report_of_script-clause-headline g c = λ tells.
     let asked = answers.form_asked (map string_bytes c.args.words.now) in
-    let states = matching.states_of g.S.NodeStore.told g.S.NodeStore.needs_load c.report_of_script.new.stores.items in
+    let states = matching.store_states_of g.S.NodeStore.told g.S.NodeStore.needs_load c.report_of_script.new.stores.items in
     let before = g.O.Sink.content c.args.output.now in
     let now = g.O.Sink.content c.report_of_script.new.output in
     let content = g.I.Source.content c.args.input.now in
@@ -30,7 +30,7 @@ returns-in-Ok-report_of_script-clause-headline g c = λ tells.
 pub returns-in-Ok-report_of_script-clause-written : goal.returns-in-Ok-report_of_script-clause-written
 returns-in-Ok-report_of_script-clause-written g c = λ tells.
     let asked = answers.form_asked (map string_bytes c.args.words.now) in
-    let states = matching.states_of g.S.NodeStore.told g.S.NodeStore.needs_load c.report_of_script.new.stores.items in
+    let states = matching.store_states_of g.S.NodeStore.told g.S.NodeStore.needs_load c.report_of_script.new.stores.items in
     let before = g.O.Sink.content c.args.output.now in
     let now = g.O.Sink.content c.report_of_script.new.output in
     let content = g.I.Source.content c.args.input.now in
@@ -51,7 +51,7 @@ returns-in-Ok-report_of_script-clause-source g c = streamed.ended_source c.in-Ok
 pub returns-in-Err-report_of_script-clause-front : goal.returns-in-Err-report_of_script-clause-front
 returns-in-Err-report_of_script-clause-front g c = λ is tells.
     let asked = answers.form_asked (map string_bytes c.args.words.now) in
-    let states = matching.states_of g.S.NodeStore.told g.S.NodeStore.needs_load c.report_of_script.new.stores.items in
+    let states = matching.store_states_of g.S.NodeStore.told g.S.NodeStore.needs_load c.report_of_script.new.stores.items in
     let before = g.O.Sink.content c.args.output.now in
     let now = g.O.Sink.content c.report_of_script.new.output in
     let content = g.I.Source.content c.args.input.now in
@@ -63,13 +63,13 @@ returns-in-Err-report_of_script-clause-front g c = λ is tells.
 pub returns-in-Err-report_of_script-clause-part : goal.returns-in-Err-report_of_script-clause-part
 returns-in-Err-report_of_script-clause-part g c = λ is.
     let asked = answers.form_asked (map string_bytes c.args.words.now) in
-    let states = matching.states_of g.S.NodeStore.told g.S.NodeStore.needs_load c.report_of_script.new.stores.items in
+    let states = matching.store_states_of g.S.NodeStore.told g.S.NodeStore.needs_load c.report_of_script.new.stores.items in
     let before = g.O.Sink.content c.args.output.now in
     let now = g.O.Sink.content c.report_of_script.new.output in
     let content = g.I.Source.content c.args.input.now in
     let script = c.in-Ok.request.script in
     streamed.left_writes _ c.in-Err-report_of_script.why c.given_up.result c.in-Ok.request.json script asked
-        (outcomes.TellAlike g.S.NodeStore.told c.args.stores.now.items c.report_of_script.new.stores.items) (matching.AreTelling (matching.states_of g.S.NodeStore.told g.S.NodeStore.needs_load c.args.stores.now.items))
+        (outcomes.TellAlike g.S.NodeStore.told c.args.stores.now.items c.report_of_script.new.stores.items) (matching.AreTelling (matching.store_states_of g.S.NodeStore.told g.S.NodeStore.needs_load c.args.stores.now.items))
         content (λ bytes. answers.judged (outcomes.input_bytes bytes)) states c.args.output.now c.report_of_script.new.output before now
         c.given_up.ensures is c.in-Ok.ensures.form c.in-Ok.ensures.read c.in-Err-report_of_script.ensures.silent
         (λ tells. c.in-Err-report_of_script.ensures.writes (still_telling g.S.NodeStore.told g.S.NodeStore.needs_load c.args.stores.now.items c.request.new.stores.items c.in-Ok.ensures.told tells))
