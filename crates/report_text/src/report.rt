@@ -119,6 +119,7 @@ fn write_waiting(text: &mut Printout, waiting: &[(u64, u64)]) -> Result<(), NoMe
 pub fn write_rest(text: &mut Printout, report: &Report) -> Result<(), NoMemory>
     ensures written { OnOk result (text.new ≡ text.old ++ texts.rest_text report.now) }
     ensures fits_history { OnOk result (AllByRecursion report_values.FitsHistoryEntry report.now.history) }
+    ensures fits_waiting { OnOk result (AllByRecursion report_values.FitsCallNumber report.now.waiting) }
     ensures fits_end { OnOk result (report_values.FitsRunEnd report.now.end) }
 {
     write_history(text, report.history.as_slice())?;

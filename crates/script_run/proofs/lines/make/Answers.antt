@@ -24,3 +24,7 @@ returns-clause-ready g c = record {
   };
   telling = c.step.ensures.told;
 }
+
+pub returns-in_err-step-clause-makes : goal.returns-in_err-step-clause-makes
+returns-in_err-step-clause-makes g c = λ tells.
+    lemmas.not_made c.args.json c.args.world.now c.step.new.self (g.O.Sink.content c.args.output.now) c.args.made.now c.from_residual.result c.in_err-step.ensures.err c.from_residual.ensures.1
