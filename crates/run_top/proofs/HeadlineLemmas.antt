@@ -1,12 +1,11 @@
 -- What was written of a script's run stands by the headline.
 use Rattle.std.proofs.Common.{◌≡◌, ℕ, List, [], ◌∷◌, length, take, map, refl, ap, sym, ◌∙◌, subst}
-use Rattle.std.specs.Prelude.{Bool, Option, Some, None, IfSome, Result, Ok, Err}
+use Rattle.std.specs.Prelude.{Bool, Option, Some, None, IfSome, Result, Ok}
 use Rattle.ax_types.specs.declared.entries.Loaded.{Loaded}
 use Rattle.ax_types.specs.declared.scripts.RunEnd.{RunEnd}
 use Rattle.ax_types.specs.declared.scripts.RunEnd.TheVariants as ends
 use Rattle.ax_types.specs.declared.scripts.Script.{Script}
 use Rattle.ax_types.specs.declared.statuses.Status.{Status}
-use Rattle.ax_io.specs.Content as ax_io_content
 use Rattle.spec_script.specs.Scripts as scripts
 use Rattle.spec_world.specs.Worlds as worlds
 use Rattle.spec_run.specs.KeptStores as kept_stores

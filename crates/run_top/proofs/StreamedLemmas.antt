@@ -1,5 +1,5 @@
 -- What a run of the program wrote, by how it ended.
-use Rattle.std.proofs.Common.{◌≡◌, ◌≢◌, ℕ, ◌≤◌, List, ◌++◌, refl, ap, sym, ◌∙◌, subst, inl, inr, take, take-append-drop}
+use Rattle.std.proofs.Common.{◌≡◌, ◌≢◌, ℕ, ◌≤◌, List, ap, sym, ◌∙◌, subst, inl, inr, take, take-append-drop}
 use Rattle.std.specs.Prelude.{◌⊎◌, Bool, true, false, Option, Some, None, IfSome, Result, Ok, Err}
 use Rattle.ax_types.specs.declared.scripts.RunEnd.{RunEnd}
 use Rattle.ax_types.specs.declared.scripts.RunEnd.TheVariants as ends

@@ -1,5 +1,5 @@
 -- What the program's answer says.
-use Rattle.std.specs.Prelude.{◌≡◌, ◌⊎◌, ⊤, ℕ, Bool, true, false, List, take, map, Option, Some, None, Result, Ok, Err, IfSome, IsOkAnd}
+use Rattle.std.specs.Prelude.{◌≡◌, ◌⊎◌, ⊤, ℕ, Bool, true, List, take, map, Option, Some, None, Result, Ok, Err, IsOkAnd}
 use Rattle.ax_types.specs.declared.entries.Loaded.{Loaded}
 use Rattle.ax_types.specs.declared.scripts.RunEnd.{RunEnd}
 use Rattle.ax_types.specs.declared.scripts.RunEnd.TheVariants as ends
@@ -15,7 +15,6 @@ use Rattle.store_opening.specs.declared.opening.Finding.TheVariants as finding
 use Rattle.world_hosts.specs.StoresMatch as matching
 use Rattle.script_report.specs.ReportForms as report_forms
 use Rattle.law_headline.specs.Headline as headlines
-use Rattle.run_top.specs.Answers as run_top_answers
 use Rattle.run_top.specs.Judging as judging
 use Rattle.command_words.specs.declared.words.WordsRefused.{WordsRefused}
 use Rattle.command_words.specs.declared.words.WordsRefused.TheVariants as words_refused

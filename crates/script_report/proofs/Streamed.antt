@@ -7,11 +7,9 @@ use Rattle.ax_types.specs.declared.scripts.RunEnd.{RunEnd}
 use Rattle.ax_types.specs.declared.scripts.Script.{Script}
 use Rattle.ax_io.specs.Content as ax_io_content
 use Rattle.ax_io.proofs.Fronts.{append_told-append_told, TakesFront-more}
-use Rattle.spec_claims.specs.Transcript as transcripts
 use Rattle.spec_report.specs.Items as report_items
 use Rattle.spec_report.specs.Report as reports
 use Rattle.spec_report.specs.ReportValues as report_values
-use Rattle.spec_world.specs.Worlds as worlds
 use Rattle.spec_run.specs.Run as runs
 use Rattle.world_hosts.specs.StoresMatch as matching
 use Rattle.script_run.specs.Carrying as carrying

@@ -2,7 +2,7 @@
 use Rattle.std.proofs.Common.{◌≡◌, ℕ, ◌≤◌, List, [], ◌∷◌, ◌++◌, length, map, refl, ap, sym, ◌∙◌, subst, append_assoc, append-nil}
 use Rattle.std.proofs.Common.{inl, inr, arith, suc, ◌<◌, ◌+◌, drop, drop_at, slice_index_or}
 use Rattle.std.proofs.lemmas.List.{drop_more, drop_all}
-use Rattle.std.specs.Prelude.{◌⊎◌, ⊤, Bool, true, false, Option, Some, None, flat_map, Result, Ok, Err, IsErrAnd}
+use Rattle.std.specs.Prelude.{◌⊎◌, ⊤, Bool, true, false, Option, Some, None, Result, Ok, Err, IsErrAnd}
 use Rattle.std.specs.List.{AllByRecursion}
 use Rattle.ax_io.specs.Content as ax_io_content
 use Rattle.ax_io.proofs.Fronts.{append_told-append_told, TakesFront-more}
@@ -350,6 +350,7 @@ script_ends json s told states taken written first w ran tells opened f ready it
       written = h.written;
       fits = h.fits;
     }
+
     by_end : (end : RunEnd) → ran.end ≡ end → carrying.Ends (script_runs.beginning_of s taken) (in_code.so_far json written w) [] (Ok end) → script_runs.RunsScript json s states taken written ran
     by_end ends.Done is h = ended ends.Done [] is h (at_end (script_runs.beginning_of s taken) [] (in_code.so_far json written w) ends.Done h (inl refl) refl)
     by_end (ends.StepLimit line) is h =

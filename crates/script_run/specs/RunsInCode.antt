@@ -1,8 +1,7 @@
 -- A world and its stores between the steps of a script.
-use Rattle.std.specs.Prelude.{ℕ, ◌≡◌, ◌≤◌, Bool, true, false, Option, Result, Ok, Err, List, [], ◌∷◌, length}
+use Rattle.std.specs.Prelude.{ℕ, ◌≡◌, ◌≤◌, Bool, true, false, Option, Result, Err, List, [], ◌∷◌, length}
 use Rattle.ax_io.specs.Count as counts
 use Rattle.ax_types.specs.declared.limits.TheConstants.{MAX_STEPS}
-use Rattle.ax_types.specs.declared.steps.Step.{Step}
 use Rattle.ax_types.specs.declared.steps.Step.TheVariants as step
 use Rattle.spec_run.specs.Run as runs
 use Rattle.ax_world.specs.OpenWorlds as open_worlds

@@ -1,4 +1,4 @@
-ghost use Rattle.std.specs.Prelude.{◌≡◌, ◌≤◌, ◌+◌, [], ◌∷◌, true, false, length, IfOk};
+ghost use Rattle.std.specs.Prelude.{◌≡◌, ◌+◌, [], ◌∷◌, true, false, length, IfOk};
 ghost use Rattle.ax_types.specs.declared.steps.Step.TheVariants as step;
 ghost use Rattle.spec_run.specs.Run as runs;
 ghost use Rattle.world_hosts.specs.StoresMatch as matching;
@@ -57,7 +57,15 @@ fn deliver<S: NodeStore, O: Sink>(
     ensures sink { in_code.LeavesSink json O.faults output.old output.new result }
     ensures grows { IfOk result (λ went. went ≡ true → length world.new.kept ≡ length world.old.kept + 1) }
 {
-    make(world, stores, output, text, json, &Step::Deliver { number }, filters)
+    make(
+        world,
+        stores,
+        output,
+        text,
+        json,
+        &Step::Deliver { number },
+        filters,
+    )
 }
 
 /// A beat of a node. `false`: as many steps were made as a run may have, and nothing is done.
@@ -77,7 +85,15 @@ fn beat<S: NodeStore, O: Sink>(
     ensures sink { in_code.LeavesSink json O.faults output.old output.new result }
     ensures grows { IfOk result (λ went. went ≡ true → length world.new.kept ≡ length world.old.kept + 1) }
 {
-    make(world, stores, output, text, json, &Step::Beat { node }, filters)
+    make(
+        world,
+        stores,
+        output,
+        text,
+        json,
+        &Step::Beat { node },
+        filters,
+    )
 }
 
 /// Delivers, again and again, the first packet that can be delivered. `false`: a delivery was due when as many steps were made as

@@ -1,4 +1,4 @@
-ghost use Rattle.std.specs.Prelude.{◌≡◌, ◌≤◌};
+ghost use Rattle.std.specs.Prelude.{◌≤◌};
 ghost use Rattle.ax_types.specs.declared.limits.TheConstants.{MAX_CLIENTS, MAX_NODES, MAX_TIMEOUT};
 ghost use Rattle.world_hosts.specs.StoresMatch as matching;
 ghost use Rattle.script_run.specs.RunsInCode as in_code;

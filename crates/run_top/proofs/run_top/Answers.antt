@@ -1,5 +1,5 @@
 -- What was written, and what it stands by, by how the run ended.
-use Rattle.std.proofs.Common.{◌≡◌, map, string_bytes, refl, inl, ap, ◌∙◌}
+use Rattle.std.proofs.Common.{◌≡◌, map, string_bytes}
 use Rattle.std.specs.Prelude.{Ok}
 use Rattle.world_hosts.specs.StoresMatch as matching
 use Rattle.script_report.specs.ReportForms as report_forms
@@ -20,12 +20,11 @@ returns-in-Ok-report_of_script-clause-headline g c = λ tells.
     let script = c.in-Ok.request.script in
     let writes = c.in-Ok-report_of_script.ensures.writes (still_telling g.S.NodeStore.told g.S.NodeStore.needs_load c.args.stores.now.items c.request.new.stores.items c.in-Ok.ensures.told tells) in
     lemmas.ended_so c.ended.result c.in-Ok-report_of_script.end content
-        (λ bytes. answers.judged (outcomes.input_bytes bytes) ≡ Ok script)
-        (λ end bytes. outcomes.StandsBy asked (answers.judged (outcomes.input_bytes bytes)) states before now end)
-        c.ended.ensures
-        (λ bytes read. lemmas.stands_by c.in-Ok.request.json script asked (answers.judged (outcomes.input_bytes bytes)) states before now c.in-Ok-report_of_script.end c.in-Ok.ensures.within c.in-Ok.ensures.form read writes)
-        c.in-Ok.ensures.read
-
+    (λ bytes. answers.judged (outcomes.input_bytes bytes) ≡ Ok script)
+    (λ end bytes. outcomes.StandsBy asked (answers.judged (outcomes.input_bytes bytes)) states before now end)
+    c.ended.ensures
+    (λ bytes read. lemmas.stands_by c.in-Ok.request.json script asked (answers.judged (outcomes.input_bytes bytes)) states before now c.in-Ok-report_of_script.end c.in-Ok.ensures.within c.in-Ok.ensures.form read writes)
+    c.in-Ok.ensures.read
 
 pub returns-in-Ok-report_of_script-clause-written : goal.returns-in-Ok-report_of_script-clause-written
 returns-in-Ok-report_of_script-clause-written g c = λ tells.
@@ -37,16 +36,14 @@ returns-in-Ok-report_of_script-clause-written g c = λ tells.
     let script = c.in-Ok.request.script in
     let writes = c.in-Ok-report_of_script.ensures.writes (still_telling g.S.NodeStore.told g.S.NodeStore.needs_load c.args.stores.now.items c.request.new.stores.items c.in-Ok.ensures.told tells) in
     lemmas.ended_so c.ended.result c.in-Ok-report_of_script.end content
-        (λ bytes. answers.judged (outcomes.input_bytes bytes) ≡ Ok script)
-        (λ end bytes. outcomes.WritesReport asked (answers.judged (outcomes.input_bytes bytes)) states before now end)
-        c.ended.ensures
-        (λ bytes read. streamed.of_asked asked (answers.judged (outcomes.input_bytes bytes)) c.in-Ok.request.json script (λ json s. report_forms.WritesReport json s states before now c.in-Ok-report_of_script.end) c.in-Ok.ensures.form read writes)
-        c.in-Ok.ensures.read
-
+    (λ bytes. answers.judged (outcomes.input_bytes bytes) ≡ Ok script)
+    (λ end bytes. outcomes.WritesReport asked (answers.judged (outcomes.input_bytes bytes)) states before now end)
+    c.ended.ensures
+    (λ bytes read. streamed.of_asked asked (answers.judged (outcomes.input_bytes bytes)) c.in-Ok.request.json script (λ json s. report_forms.WritesReport json s states before now c.in-Ok-report_of_script.end) c.in-Ok.ensures.form read writes)
+    c.in-Ok.ensures.read
 
 pub returns-in-Ok-report_of_script-clause-source : goal.returns-in-Ok-report_of_script-clause-source
 returns-in-Ok-report_of_script-clause-source g c = streamed.ended_source c.in-Ok-report_of_script.end c.ended.result (g.I.Source.content c.args.input.now) (g.I.Source.content c.request.new.input) c.ended.ensures c.in-Ok.ensures.source
-
 
 pub returns-in-Err-report_of_script-clause-front : goal.returns-in-Err-report_of_script-clause-front
 returns-in-Err-report_of_script-clause-front g c = λ is tells.
@@ -57,8 +54,7 @@ returns-in-Err-report_of_script-clause-front g c = λ is tells.
     let content = g.I.Source.content c.args.input.now in
     let script = c.in-Ok.request.script in
     streamed.fault_writes c.in-Err-report_of_script.why c.given_up.result c.in-Ok.request.json script asked content (λ bytes. answers.judged (outcomes.input_bytes bytes)) states before now
-        c.given_up.ensures is c.in-Ok.ensures.form c.in-Ok.ensures.read (c.in-Err-report_of_script.ensures.writes (still_telling g.S.NodeStore.told g.S.NodeStore.needs_load c.args.stores.now.items c.request.new.stores.items c.in-Ok.ensures.told tells))
-
+    c.given_up.ensures is c.in-Ok.ensures.form c.in-Ok.ensures.read (c.in-Err-report_of_script.ensures.writes (still_telling g.S.NodeStore.told g.S.NodeStore.needs_load c.args.stores.now.items c.request.new.stores.items c.in-Ok.ensures.told tells))
 
 pub returns-in-Err-report_of_script-clause-part : goal.returns-in-Err-report_of_script-clause-part
 returns-in-Err-report_of_script-clause-part g c = λ is.
@@ -69,24 +65,19 @@ returns-in-Err-report_of_script-clause-part g c = λ is.
     let content = g.I.Source.content c.args.input.now in
     let script = c.in-Ok.request.script in
     streamed.left_writes _ c.in-Err-report_of_script.why c.given_up.result c.in-Ok.request.json script asked
-        (outcomes.TellAlike g.S.NodeStore.told c.args.stores.now.items c.report_of_script.new.stores.items) (matching.AreTelling (matching.store_states_of g.S.NodeStore.told g.S.NodeStore.needs_load c.args.stores.now.items))
-        content (λ bytes. answers.judged (outcomes.input_bytes bytes)) states c.args.output.now c.report_of_script.new.output before now
-        c.given_up.ensures is c.in-Ok.ensures.form c.in-Ok.ensures.read c.in-Err-report_of_script.ensures.silent
-        (λ tells. c.in-Err-report_of_script.ensures.writes (still_telling g.S.NodeStore.told g.S.NodeStore.needs_load c.args.stores.now.items c.request.new.stores.items c.in-Ok.ensures.told tells))
-
+    (outcomes.TellAlike g.S.NodeStore.told c.args.stores.now.items c.report_of_script.new.stores.items) (matching.AreTelling (matching.store_states_of g.S.NodeStore.told g.S.NodeStore.needs_load c.args.stores.now.items))
+    content (λ bytes. answers.judged (outcomes.input_bytes bytes)) states c.args.output.now c.report_of_script.new.output before now
+    c.given_up.ensures is c.in-Ok.ensures.form c.in-Ok.ensures.read c.in-Err-report_of_script.ensures.silent
+    (λ tells. c.in-Err-report_of_script.ensures.writes (still_telling g.S.NodeStore.told g.S.NodeStore.needs_load c.args.stores.now.items c.request.new.stores.items c.in-Ok.ensures.told tells))
 
 pub returns-in-Err-report_of_script-clause-source : goal.returns-in-Err-report_of_script-clause-source
 returns-in-Err-report_of_script-clause-source g c = streamed.left_source c.in-Err-report_of_script.why c.given_up.result (g.I.Source.content c.args.input.now) (g.I.Source.content c.request.new.input) c.given_up.ensures c.in-Ok.ensures.source
 
-
 pub returns-in-Err-report_of_script-clause-write_fault : goal.returns-in-Err-report_of_script-clause-write_fault
 returns-in-Err-report_of_script-clause-write_fault g c = streamed.counts_rise c.in-Err-report_of_script.why c.given_up.result (g.O.Sink.faults c.args.output.now) (g.O.Sink.faults c.report_of_script.new.output) c.given_up.ensures c.in-Err-report_of_script.ensures.count
-
 
 pub returns-in-Err-report_of_script-clause-no_write_fault : goal.returns-in-Err-report_of_script-clause-no_write_fault
 returns-in-Err-report_of_script-clause-no_write_fault g c = streamed.counts_stand c.in-Err-report_of_script.why c.given_up.result (g.O.Sink.faults c.args.output.now) (g.O.Sink.faults c.report_of_script.new.output) c.given_up.ensures c.in-Err-report_of_script.ensures.count
 
-
 pub returns-in-Err-report_of_script-clause-sink_count : goal.returns-in-Err-report_of_script-clause-sink_count
 returns-in-Err-report_of_script-clause-sink_count g c = streamed.counts_never_fall c.in-Err-report_of_script.why (g.O.Sink.faults c.args.output.now) (g.O.Sink.faults c.report_of_script.new.output) c.in-Err-report_of_script.ensures.count
-

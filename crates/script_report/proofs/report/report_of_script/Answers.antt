@@ -1,5 +1,5 @@
 -- What the sink took of a report, by where its writing ended.
-use Rattle.std.proofs.Common.{rules, ◌≡◌, string_bytes, ap, sym, ◌∙◌, subst}
+use Rattle.std.proofs.Common.{string_bytes, ap, sym, ◌∙◌, subst}
 use Rattle.ax_io.specs.Content as ax_io_content
 use Rattle.world_hosts.specs.StoresMatch as matching
 use Rattle.script_run.specs.Carrying as carrying

@@ -1,4 +1,4 @@
-use Rattle.std.proofs.Common.{rules, ◌≡◌, refl, sym, ◌∙◌, true, false, [], ◌∷◌}
+use Rattle.std.proofs.Common.{rules, sym, ◌∙◌, true, false, [], ◌∷◌}
 use Rattle.std.specs.Prelude.{Ok, Err}
 use Rattle.ax_types.specs.declared.steps.Step.TheVariants as step
 use Rattle.spec_run.specs.Run as runs

@@ -1,8 +1,6 @@
-use Rattle.std.proofs.Common.{rules, ◌≡◌, ◌≤◌, ◌<◌, length, refl, ap, subst, sym}
+use Rattle.std.proofs.Common.{rules, ◌≤◌, length, refl, subst}
 use Rattle.std.specs.Prelude.{Ok}
 use Rattle.ax_types.specs.declared.limits.TheConstants.{MAX_STEPS}
-use Rattle.script_run.specs.Carrying as carrying
-use Rattle.script_run.specs.RunsInCode as in_code
 use Rattle.script_run.proofs.Carrying as lemmas
 use Rattle.script_run.proofs.lines.make.Goals as goal
 

@@ -1,4 +1,4 @@
-use Rattle.std.proofs.Common.{rules, ◌≡◌, ◌≤◌, ◌∙◌, length, arith}
+use Rattle.std.proofs.Common.{◌∙◌, arith}
 use Rattle.script_run.specs.RunsInCode as in_code
 use Rattle.script_run.proofs.Carrying as lemmas
 use Rattle.script_run.proofs.lines.run_lines.Goals as goal
