@@ -1,5 +1,5 @@
 -- What a run of the program wrote, by how it ended.
-use Rattle.std.proofs.Common.{◌≡◌, ◌≢◌, ℕ, ◌≤◌, List, ap, sym, ◌∙◌, subst, inl, inr, take, take-append-drop}
+use Rattle.std.proofs.Common.{◌≡◌, ℕ, List, [], ap, sym, ◌∙◌, subst, inl, inr, take, take-append-drop}
 use Rattle.std.specs.Prelude.{◌⊎◌, Bool, true, false, Option, Some, None, IfSome, Result, Ok, Err}
 use Rattle.ax_types.specs.declared.scripts.RunEnd.{RunEnd}
 use Rattle.ax_types.specs.declared.scripts.RunEnd.TheVariants as ends
@@ -7,10 +7,8 @@ use Rattle.ax_types.specs.declared.scripts.Script.{Script}
 use Rattle.ax_types.specs.declared.statuses.Status.{Status}
 use Rattle.ax_types.specs.declared.statuses.Status.TheVariants as status
 use Rattle.ax_io.specs.Content as ax_io_content
-use Rattle.ax_io.specs.Count as counts
 use Rattle.spec_script.specs.Scripts as scripts
 use Rattle.world_hosts.specs.StoresMatch as matching
-use Rattle.script_run.specs.RunsInCode as in_code
 use Rattle.script_run.specs.declared.telling.GivenUp.{GivenUp}
 use Rattle.script_run.specs.declared.telling.GivenUp.TheVariants as given_up
 use Rattle.script_report.specs.ReportForms as report_forms
@@ -64,20 +62,3 @@ left_source given_up.WriteFault s before now e h = subst (source_rests.LeavesSou
 pub ended_source : (end : RunEnd) (s : Status) (before now : Option (List ℕ)) → s ≡ statuses.of_end end → source_rests.IsAllRead before now → source_rests.LeavesSource before now s
 ended_source ends.Done s before now e h = subst (source_rests.LeavesSource before now) (sym e) h
 ended_source (ends.StepLimit line) s before now e h = subst (source_rests.LeavesSource before now) (sym e) h
-
--- ---- the count of faults of the sink
-
-pub counts_rise : (why : GivenUp) (s : Status) (before now : ℕ) → s ≡ statuses.of_given_up why → in_code.Counts {A = RunEnd} before now (Err why) → s ≡ status.WriteFault → counts.Rose before now
-counts_rise given_up.NoMemory s before now e h is = cc
-counts_rise given_up.WriteFault s before now e h is = h.1
-
-pub counts_stand : (why : GivenUp) (s : Status) (before now : ℕ) → s ≡ statuses.of_given_up why → in_code.Counts {A = RunEnd} before now (Err why) → s ≢ status.WriteFault → now ≡ before
-counts_stand given_up.NoMemory s before now e h isnt = h
-counts_stand given_up.WriteFault s before now e h isnt = absurd (isnt e)
-
-pub counts_never_fall : (why : GivenUp) (before now : ℕ) → in_code.Counts {A = RunEnd} before now (Err why) → before ≤ now
-counts_never_fall given_up.NoMemory before now h = rw (h) le
-  where
-    le : before ≤ before
-    le = grind (arith)
-counts_never_fall given_up.WriteFault before now h = h.0

@@ -12,7 +12,7 @@ ghost use Rattle.run_top.specs.SourceRests as source_rests;
 mod reading;
 mod refusals;
 
-use crate::reading::request;
+use crate::reading::read_request;
 use crate::refusals::{ended, given_up};
 use ax_io::{Sink, Source};
 use ax_types::Status;
@@ -74,7 +74,7 @@ pub fn run_top<I: Source, O: Sink, S: NodeStore>(
     ensures headline { matching.AreTelling (matching.store_states_of S.told S.needs_load stores.old.items) → outcomes.IfEnded result (λ end. IfSome (I.content input.old)
         (λ content. outcomes.StandsBy (answers.form_asked (map string_bytes words.now)) (answers.judged (outcomes.input_bytes content)) (matching.store_states_of S.told S.needs_load stores.new.items) (O.content output.old) (O.content output.new) end)) }
 {
-    let request = match request(alloc, words, input, stores) {
+    let request = match read_request(alloc, words, input, stores) {
         Ok(request) => request,
         Err(refused) => return refused.status(),
     };

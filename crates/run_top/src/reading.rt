@@ -50,7 +50,7 @@ fn script_of(alloc: Global, bytes: &[u8]) -> Result<Script, Refused>
 
 #[tactic(auto, using(crate::proofs::OpenedStores::tells_same))]
 /// The run that the words and the input ask for. The stores of its nodes were opened, and have to be empty.
-pub fn request<I: Source, S: NodeStore>(
+pub fn read_request<I: Source, S: NodeStore>(
     alloc: Global,
     words: &[String],
     input: &mut I,

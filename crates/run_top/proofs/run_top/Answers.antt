@@ -18,7 +18,7 @@ returns-in-Ok-report_of_script-clause-headline g c = λ tells.
     let now = g.O.Sink.content c.report_of_script.new.output in
     let content = g.I.Source.content c.args.input.now in
     let script = c.in-Ok.request.script in
-    let writes = c.in-Ok-report_of_script.ensures.writes (still_telling g.S.NodeStore.told g.S.NodeStore.needs_load c.args.stores.now.items c.request.new.stores.items c.in-Ok.ensures.told tells) in
+    let writes = c.in-Ok-report_of_script.ensures.writes (still_telling g.S.NodeStore.told g.S.NodeStore.needs_load c.args.stores.now.items c.read_request.new.stores.items c.in-Ok.ensures.told tells) in
     lemmas.ended_so c.ended.result c.in-Ok-report_of_script.end content
     (λ bytes. answers.judged (outcomes.input_bytes bytes) ≡ Ok script)
     (λ end bytes. outcomes.StandsBy asked (answers.judged (outcomes.input_bytes bytes)) states before now end)
@@ -34,7 +34,7 @@ returns-in-Ok-report_of_script-clause-written g c = λ tells.
     let now = g.O.Sink.content c.report_of_script.new.output in
     let content = g.I.Source.content c.args.input.now in
     let script = c.in-Ok.request.script in
-    let writes = c.in-Ok-report_of_script.ensures.writes (still_telling g.S.NodeStore.told g.S.NodeStore.needs_load c.args.stores.now.items c.request.new.stores.items c.in-Ok.ensures.told tells) in
+    let writes = c.in-Ok-report_of_script.ensures.writes (still_telling g.S.NodeStore.told g.S.NodeStore.needs_load c.args.stores.now.items c.read_request.new.stores.items c.in-Ok.ensures.told tells) in
     lemmas.ended_so c.ended.result c.in-Ok-report_of_script.end content
     (λ bytes. answers.judged (outcomes.input_bytes bytes) ≡ Ok script)
     (λ end bytes. outcomes.WritesReport asked (answers.judged (outcomes.input_bytes bytes)) states before now end)
@@ -43,10 +43,10 @@ returns-in-Ok-report_of_script-clause-written g c = λ tells.
     c.in-Ok.ensures.read
 
 pub returns-in-Ok-report_of_script-clause-source : goal.returns-in-Ok-report_of_script-clause-source
-returns-in-Ok-report_of_script-clause-source g c = streamed.ended_source c.in-Ok-report_of_script.end c.ended.result (g.I.Source.content c.args.input.now) (g.I.Source.content c.request.new.input) c.ended.ensures c.in-Ok.ensures.source
+returns-in-Ok-report_of_script-clause-source g c = streamed.ended_source c.in-Ok-report_of_script.end c.ended.result (g.I.Source.content c.args.input.now) (g.I.Source.content c.read_request.new.input) c.ended.ensures c.in-Ok.ensures.source
 
-pub returns-in-Err-report_of_script-clause-front : goal.returns-in-Err-report_of_script-clause-front
-returns-in-Err-report_of_script-clause-front g c = λ is tells.
+pub returns-clause-front : goal.returns-clause-front
+returns-clause-front g c = λ is tells.
     let asked = answers.form_asked (map string_bytes c.args.words.now) in
     let states = matching.store_states_of g.S.NodeStore.told g.S.NodeStore.needs_load c.report_of_script.new.stores.items in
     let before = g.O.Sink.content c.args.output.now in
@@ -54,10 +54,10 @@ returns-in-Err-report_of_script-clause-front g c = λ is tells.
     let content = g.I.Source.content c.args.input.now in
     let script = c.in-Ok.request.script in
     streamed.fault_writes c.in-Err-report_of_script.why c.given_up.result c.in-Ok.request.json script asked content (λ bytes. answers.judged (outcomes.input_bytes bytes)) states before now
-    c.given_up.ensures is c.in-Ok.ensures.form c.in-Ok.ensures.read (c.in-Err-report_of_script.ensures.writes (still_telling g.S.NodeStore.told g.S.NodeStore.needs_load c.args.stores.now.items c.request.new.stores.items c.in-Ok.ensures.told tells))
+    c.given_up.ensures is c.in-Ok.ensures.form c.in-Ok.ensures.read (c.in-Err-report_of_script.ensures.writes (still_telling g.S.NodeStore.told g.S.NodeStore.needs_load c.args.stores.now.items c.read_request.new.stores.items c.in-Ok.ensures.told tells))
 
-pub returns-in-Err-report_of_script-clause-part : goal.returns-in-Err-report_of_script-clause-part
-returns-in-Err-report_of_script-clause-part g c = λ is.
+pub returns-clause-part : goal.returns-clause-part
+returns-clause-part g c = λ is.
     let asked = answers.form_asked (map string_bytes c.args.words.now) in
     let states = matching.store_states_of g.S.NodeStore.told g.S.NodeStore.needs_load c.report_of_script.new.stores.items in
     let before = g.O.Sink.content c.args.output.now in
@@ -68,16 +68,7 @@ returns-in-Err-report_of_script-clause-part g c = λ is.
     (outcomes.TellAlike g.S.NodeStore.told c.args.stores.now.items c.report_of_script.new.stores.items) (matching.AreTelling (matching.store_states_of g.S.NodeStore.told g.S.NodeStore.needs_load c.args.stores.now.items))
     content (λ bytes. answers.judged (outcomes.input_bytes bytes)) states c.args.output.now c.report_of_script.new.output before now
     c.given_up.ensures is c.in-Ok.ensures.form c.in-Ok.ensures.read c.in-Err-report_of_script.ensures.silent
-    (λ tells. c.in-Err-report_of_script.ensures.writes (still_telling g.S.NodeStore.told g.S.NodeStore.needs_load c.args.stores.now.items c.request.new.stores.items c.in-Ok.ensures.told tells))
+    (λ tells. c.in-Err-report_of_script.ensures.writes (still_telling g.S.NodeStore.told g.S.NodeStore.needs_load c.args.stores.now.items c.read_request.new.stores.items c.in-Ok.ensures.told tells))
 
-pub returns-in-Err-report_of_script-clause-source : goal.returns-in-Err-report_of_script-clause-source
-returns-in-Err-report_of_script-clause-source g c = streamed.left_source c.in-Err-report_of_script.why c.given_up.result (g.I.Source.content c.args.input.now) (g.I.Source.content c.request.new.input) c.given_up.ensures c.in-Ok.ensures.source
-
-pub returns-in-Err-report_of_script-clause-write_fault : goal.returns-in-Err-report_of_script-clause-write_fault
-returns-in-Err-report_of_script-clause-write_fault g c = streamed.counts_rise c.in-Err-report_of_script.why c.given_up.result (g.O.Sink.faults c.args.output.now) (g.O.Sink.faults c.report_of_script.new.output) c.given_up.ensures c.in-Err-report_of_script.ensures.count
-
-pub returns-in-Err-report_of_script-clause-no_write_fault : goal.returns-in-Err-report_of_script-clause-no_write_fault
-returns-in-Err-report_of_script-clause-no_write_fault g c = streamed.counts_stand c.in-Err-report_of_script.why c.given_up.result (g.O.Sink.faults c.args.output.now) (g.O.Sink.faults c.report_of_script.new.output) c.given_up.ensures c.in-Err-report_of_script.ensures.count
-
-pub returns-in-Err-report_of_script-clause-sink_count : goal.returns-in-Err-report_of_script-clause-sink_count
-returns-in-Err-report_of_script-clause-sink_count g c = streamed.counts_never_fall c.in-Err-report_of_script.why (g.O.Sink.faults c.args.output.now) (g.O.Sink.faults c.report_of_script.new.output) c.in-Err-report_of_script.ensures.count
+pub returns-clause-source : goal.returns-clause-source
+returns-clause-source g c = streamed.left_source c.in-Err-report_of_script.why c.given_up.result (g.I.Source.content c.args.input.now) (g.I.Source.content c.read_request.new.input) c.given_up.ensures c.in-Ok.ensures.source

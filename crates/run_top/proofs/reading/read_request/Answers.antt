@@ -3,7 +3,7 @@ use Rattle.std.proofs.Common.{ap, sym, ◌∙◌}
 use Rattle.run_top.specs.Answers as answers
 use Rattle.run_top.proofs.SourceLemmas.{refused_leaves_as, opening_leaves_as, taken_leaves}
 use Rattle.run_top.proofs.OpenedStores.{opened_match}
-use Rattle.run_top.proofs.reading.request.Goals as goal
+use Rattle.run_top.proofs.reading.read_request.Goals as goal
 
 pub returns-in_err-script-clause-source : goal.returns-in_err-script-clause-source
 returns-in_err-script-clause-source g c =
