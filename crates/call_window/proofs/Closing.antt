@@ -122,6 +122,19 @@ some_seat crew (s ∷ ss) some all = omega arith
 
 -- ---- the close
 
+-- the callers that the joined seat knows once it looked at all places
+pub callers_at_end : (places crew : ℕ) (m0 mp m1 m2 m3 m4 : plays.Knows) (rest : List views.SeatView) (taken base answered drawn : ℕ)
+    → seats.IsCallerSeat m0 → seats.IsPumpSeat mp taken base answered → HasMet m0 m1 mp.0 → (j : HasJoined m1 m2 rest) → m3 ≡ (plays.saw_last m2.0 0 drawn, m2.1)
+    → ((p : known.PumpKnown) → m3.0.pump ≡ Some p → HasSurveyed places crew p m3 m4 places) → m4.0.callers ≡ known.caller_of m0.0 ∷ j.more
+callers_at_end places crew m0 mp m1 m2 m3 m4 rest taken base answered drawn i ip met j e3 survey =
+    let c : known.CallerKnown = known.caller_of m0.0 in
+    let p : known.PumpKnown = known.pump_of mp.0 in
+    let first : m1 ≡ (known.joined (plays.saw_last (known.known_to_caller c) 0 met.next) (known.known_to_pump p), []) =
+    met.me ∙ ap₂ (λ (z y : plays.Knows). (known.joined (plays.saw_last z.0 0 met.next) y.0, z.1)) i.alone ip.alone in
+    let callers2 : m2.0.callers ≡ c ∷ j.more = j.callers c [] (ap (λ (z : plays.Knows). z.0.callers) first) ∙ ap (λ (l : List known.CallerKnown). c ∷ l) (append-nil j.more) in
+    let pump3 : m3.0.pump ≡ Some p = ap (λ (z : plays.Knows). z.0.pump) e3 ∙ (j.pump ∙ ap (λ (z : plays.Knows). z.0.pump) first) in
+    (survey p pump3).callers ∙ (ap (λ (z : plays.Knows). z.0.callers) e3 ∙ callers2)
+
 pub record ClosedWith (places : ℕ) (mp m5 : plays.Knows) (ss : List views.SeatView) (drawn answered : ℕ) : Type 0 where
   pub seat : seats.IsCallerSeat m5
   pub closed : agreement.IsClosed places (known.pump_of mp.0).pump ss drawn answered (known.caller_of m5.0).seat
