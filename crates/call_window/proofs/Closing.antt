@@ -1,6 +1,7 @@
 -- What the joins and the last looks come to, and what is then agreed.
 use Rattle.std.proofs.Common.{◌≡◌, ℕ, zero, suc, ◌+◌, ◌-◌, ◌<◌, ◌≤◌, ◌⊎◌, ⊎_elim, inl, inr, nat_eq, if◌then◌else◌, Bool, Option, Some, None, List, [], ◌∷◌, ◌++◌, length, map, get_or, append_assoc, ne_eqb, refl, sym, ap, ap₂, subst, ◌∙◌, le_refl, arith, length-append}
 use Rattle.std.specs.List.{AllByRecursion, slice_get}
+use Rattle.std.specs.Prelude.{slice_index_or, take, drop}
 use Rattle.std.proofs.lemmas.List.{append-nil, get_or_append_left, map-append}
 use Rattle.std.proofs.Math.Seq.{get_or-append_seam}
 use mathlib.Core.Logic.{dite}
@@ -115,10 +116,18 @@ surveyed_one places crew p m m1 m2 n s pump_is h word word_is me found_in n' n'_
 
 -- ---- the first seat
 
--- a list that has the seat of each caller of a window is not empty
-pub some_seat : (crew : ℕ) (ss : List views.SeatView) → 1 ≤ crew → AreAllSeats crew ss → 0 < length ss
-some_seat crew [] some all = let one : 0 ≡ 1 = all 1 (record { first = le_refl 1; last = some }) in absurd (omega arith)
-some_seat crew (s ∷ ss) some all = omega arith
+-- the first seat and the others
+pub first_seat : (ss left : List seats.SeatOf) (s : seats.SeatOf) (v : views.SeatView) → 0 < length ss → s ≡ slice_index_or ss 0 s → left ≡ take 0 ss ++ drop 1 ss → v ≡ s.seat → map (λ s. s.seat) ss ≡ v ∷ map (λ s. s.seat) left
+first_seat [] left s v some e f is = absurd (omega arith)
+first_seat (x ∷ xs) left s v some e f is = ap₂ (λ (t : views.SeatView) (l : List seats.SeatOf). t ∷ map (λ s. s.seat) l) (sym (is ∙ ap (λ (y : seats.SeatOf). y.seat) e)) (sym f)
+
+pub first_has : (P : seats.SeatOf → Type 0) (ss : List seats.SeatOf) (s : seats.SeatOf) → 0 < length ss → s ≡ slice_index_or ss 0 s → AllByRecursion P ss → P s
+first_has P [] s some e h = absurd (omega arith)
+first_has P (x ∷ xs) s some e h = subst P (sym e) h.0
+
+pub some_seats : (crew : ℕ) (ss : List seats.SeatOf) → 1 ≤ crew → AreAllSeats crew (map (λ s. s.seat) ss) → 0 < length ss
+some_seats crew [] some all = let one : 0 ≡ 1 = all 1 (record { first = le_refl 1; last = some }) in absurd (omega arith)
+some_seats crew (s ∷ ss) some all = omega arith
 
 -- ---- the close
 
