@@ -126,7 +126,10 @@ first_has P [] s some e h = absurd (omega arith)
 first_has P (x ∷ xs) s some e h = subst P (sym e) h.0
 
 pub some_seats : (crew : ℕ) (ss : List seats.SeatOf) → 1 ≤ crew → AreAllSeats crew (map (λ s. s.seat) ss) → 0 < length ss
-some_seats crew [] some all = let one : 0 ≡ 1 = all 1 (record { first = le_refl 1; last = some }) in absurd (omega arith)
+some_seats crew [] some all = absurd (not_one 0 refl (all 1 (record { first = le_refl 1; last = some })))
+  where
+    not_one : (n : ℕ) → n ≡ 0 → n ≡ 1 → ⊥
+    not_one n none one = omega arith
 some_seats crew (s ∷ ss) some all = omega arith
 
 -- ---- the close
