@@ -1,9 +1,9 @@
 -- What the lists of all seats, of the pump and the words agree on, read off the rule where one seat knows them all.
-use Rattle.std.proofs.Common.{◌≡◌, ◌≢◌, ℕ, zero, suc, ◌+◌, ◌*◌, ◌%◌, ◌<◌, ◌≤◌, ◌⊎◌, ⊎_elim, inl, inr, nat_eq, nat_lt, eq-eqb, ne_eqb, if◌then◌else◌, cond, ◌&&◌, Bool, true, false, Option, Some, None, List, [], ◌∷◌, ◌++◌, length, map, get_or, refl, sym, ap, ap₂, subst, ◌∙◌, le_refl, mod-lt, arith}
+use Rattle.std.proofs.Common.{◌≡◌, ℕ, zero, suc, ◌+◌, ◌%◌, ◌<◌, ◌≤◌, nat_eq, nat_lt, if◌then◌else◌, cond, ◌&&◌, Bool, true, false, Option, Some, None, List, [], ◌∷◌, ◌++◌, length, map, get_or, refl, sym, ap, ap₂, subst, ◌∙◌, le_refl, mod-lt, arith}
 use Rattle.std.specs.Prelude.{All, Contains}
-use Rattle.std.specs.List.{AllByRecursion, slice_get, flat_map, count_by, sum_by}
+use Rattle.std.specs.List.{AllByRecursion, slice_get, flat_map, count_by}
 use Rattle.std.specs.List.Sorted.{IsStrictlyIncreasing}
-use Rattle.std.proofs.lemmas.Bool.{eqb-true, lt-ltb, le-ltb, ltb-true}
+use Rattle.std.proofs.lemmas.Bool.{eqb-true, le-ltb}
 use Rattle.std.proofs.lemmas.List.Sums.{sum_by-cons, sum_by-append}
 use mathlib.Core.Logic.{dite}
 use native.Mathlib.Decide.{dec_le}
@@ -14,14 +14,12 @@ use Rattle.spec_window.specs.Views as views
 use Rattle.spec_window.specs.WindowAgreement as agreement
 use Rattle.law_window.specs.WindowKnown as known
 use Rattle.law_window.specs.WindowLives as lives
-use Rattle.law_window.specs.WindowPlays as plays
 use Rattle.law_window.specs.WindowRule as rule
 use Rattle.law_window.specs.WindowSeats as seats
 use Rattle.call_window.specs.WindowClosing.{IsIdle, IsWaiting, IsReading}
-use Rattle.law_window.proofs.Places.{by_eq}
 use Rattle.law_window.proofs.Lifetimes.{noted_own}
-use Rattle.law_window.proofs.Notes.{if_same, if_other, note_past, get_some}
-use Rattle.law_window.proofs.Seating.{TheState, each_since}
+use Rattle.law_window.proofs.Notes.{if_same, if_other, get_some}
+use Rattle.law_window.proofs.Seating.{each_since}
 
 -- ---- lists
 

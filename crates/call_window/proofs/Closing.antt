@@ -1,5 +1,5 @@
 -- What the joins and the last looks come to, and what is then agreed.
-use Rattle.std.proofs.Common.{◌≡◌, ℕ, zero, suc, ◌+◌, ◌-◌, ◌<◌, ◌≤◌, ◌⊎◌, ⊎_elim, inl, inr, nat_eq, if◌then◌else◌, Bool, Option, Some, None, List, [], ◌∷◌, ◌++◌, length, map, get_or, append_assoc, ne_eqb, refl, sym, ap, ap₂, subst, ◌∙◌, le_refl, arith, length-append}
+use Rattle.std.proofs.Common.{◌≡◌, ℕ, suc, ◌+◌, ◌-◌, ◌<◌, ◌≤◌, if◌then◌else◌, Bool, Option, Some, None, List, [], ◌∷◌, ◌++◌, length, map, get_or, append_assoc, ne_eqb, refl, sym, ap, ap₂, subst, ◌∙◌, le_refl, arith, length-append}
 use Rattle.std.specs.List.{AllByRecursion, slice_get}
 use Rattle.std.specs.Prelude.{slice_index_or, take, drop}
 use Rattle.std.proofs.lemmas.List.{append-nil, get_or_append_left, map-append}
@@ -12,7 +12,6 @@ use Rattle.spec_window.specs.WindowCalls as window_calls
 use Rattle.spec_window.specs.WindowAgreement as agreement
 use Rattle.law_window.specs.WindowKnown as known
 use Rattle.law_window.specs.WindowPlays as plays
-use Rattle.law_window.specs.WindowRule as rule
 use Rattle.law_window.specs.WindowSeats as seats
 use Rattle.call_window.specs.WindowClosing.{AreAllSeats, IsIdle, IsWaiting, HasMet, HasJoined, HasJoinedRest, IsReading, HasSurveyed}
 use Rattle.call_window.proofs.Agreeing.{agreed}

@@ -1,5 +1,5 @@
 -- What the steps of a draw come to, and what a seat is after a call.
-use Rattle.std.proofs.Common.{◌≡◌, ◌≢◌, ℕ, zero, suc, ◌+◌, ◌<◌, ◌≤◌, nat_eq, eq-eqb, ne_eqb, if◌then◌else◌, Bool, true, false, Option, Some, None, List, [], ◌∷◌, ◌++◌, append_assoc, refl, sym, ap, ap₂, subst, ◌∙◌, arith}
+use Rattle.std.proofs.Common.{◌≡◌, ◌≢◌, ℕ, ◌+◌, ◌<◌, ◌≤◌, nat_eq, eq-eqb, ne_eqb, if◌then◌else◌, Bool, true, false, Option, Some, None, List, [], ◌∷◌, ◌++◌, append_assoc, refl, sym, ap, subst, ◌∙◌, arith}
 use Rattle.std.specs.Prelude.{MatchBool}
 use Rattle.std.specs.List.{AllByRecursion}
 use Rattle.std.proofs.lemmas.Bool.{eqb-true}
@@ -14,7 +14,6 @@ use Rattle.law_window.specs.WindowSeats as seats
 use Rattle.call_window.specs.WindowRefused as refusals
 use Rattle.call_window.specs.WindowPolls as polls
 use Rattle.call_window.proofs.Required.{match_true}
-use Rattle.law_window.proofs.Notes.{if_other}
 
 pub rising_more : (ds : List views.Drawn) (a b : ℕ) → a ≤ b → seats.AreRising ds a → seats.AreRising ds b
 rising_more [] a b le r = tt

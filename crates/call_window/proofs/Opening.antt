@@ -1,7 +1,7 @@
 -- The rule holds of a new window, and its seats are split off in order.
-use Rattle.std.proofs.Common.{ap₂, length-append, ◌≡◌, ◌≢◌, ℕ, zero, suc, ◌+◌, ◌-◌, ◌*◌, ◌%◌, ◌<◌, ◌≤◌, nat_eq, nat_lt, if◌then◌else◌, Bool, true, false, Option, Some, None, List, [], ◌∷◌, ◌++◌, length, map, get_or, refl, sym, ap, subst, ◌∙◌, mod-lt, le_refl, arith}
+use Rattle.std.proofs.Common.{ap₂, length-append, ◌≡◌, ◌≢◌, ℕ, zero, suc, ◌+◌, ◌-◌, ◌%◌, ◌<◌, ◌≤◌, nat_eq, nat_lt, if◌then◌else◌, Bool, true, false, Option, Some, None, List, [], ◌∷◌, ◌++◌, length, map, get_or, refl, sym, ap, subst, ◌∙◌, mod-lt, le_refl, arith}
 use Rattle.std.specs.Prelude.{replicate}
-use Rattle.std.specs.List.{AllByRecursion, slice_get}
+use Rattle.std.specs.List.{AllByRecursion}
 use Rattle.std.proofs.lemmas.Bool.{le-ltb}
 use Rattle.std.proofs.Math.Nat.{mod-eq_of_lt, mod-le}
 use Rattle.std.proofs.lemmas.Option.{slice_get_past}
@@ -9,10 +9,9 @@ use Rattle.std.proofs.lemmas.List.{get_or_append_left}
 use Rattle.std.proofs.Math.Seq.{get_or-append_seam}
 use mathlib.Core.Logic.{dite}
 use native.Mathlib.Decide.{dec_le}
-use mathlib.Core.Option.{some, none, some-injective, some-ne-none}
-use mathlib.Core.Option as maybe
+use mathlib.Core.Option.{some, some-injective, some-ne-none}
 use lib.ListN.{get_elem?}
-use Rattle.atomic_table.specs.Table.{State, Splits, opening}
+use Rattle.atomic_table.specs.Table.{Splits, opening}
 use Rattle.atomic_table.specs.Seated.{TableId}
 use Rattle.spec_window.specs.WindowWords as window_words
 use Rattle.spec_window.specs.Views as views
@@ -23,8 +22,6 @@ use Rattle.law_window.specs.WindowPlays as plays
 use Rattle.law_window.specs.WindowRule as rule
 use Rattle.law_window.specs.WindowSeats as seats
 use Rattle.spec_window.specs.WindowAgreement as agreement
-use Rattle.law_window.proofs.Places.{by_eq}
-use Rattle.law_window.proofs.Seating.{TheState}
 use Rattle.law_window.proofs.SeatSteps.{parts}
 
 vacant_at : (n x : ℕ) → x < n → get_elem? (map some (replicate n None)) x ≡ lives.vacant

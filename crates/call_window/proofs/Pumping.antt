@@ -1,7 +1,7 @@
 -- What the steps of the pump come to in one call.
-use Rattle.std.proofs.Common.{◌≡◌, ◌≢◌, ℕ, zero, suc, ◌+◌, ◌<◌, ◌≤◌, inl, inr, nat_eq, eq-eqb, ne_eqb, cond, Bool, true, false, Option, Some, None, List, [], ◌∷◌, ◌++◌, length, append_assoc, add-one, refl, sym, ap, ap₂, subst, ◌∙◌, le_refl, arith, length-append}
+use Rattle.std.proofs.Common.{◌≡◌, ◌≢◌, ℕ, zero, suc, ◌+◌, ◌<◌, ◌≤◌, inl, inr, nat_eq, eq-eqb, ne_eqb, cond, Bool, true, false, Some, List, [], ◌∷◌, ◌++◌, length, append_assoc, refl, sym, ap, ap₂, subst, ◌∙◌, le_refl, arith, length-append}
 use Rattle.std.specs.Prelude.{MatchBool}
-use Rattle.std.specs.List.{AllByRecursion, count_by, slice_get}
+use Rattle.std.specs.List.{AllByRecursion, count_by}
 use Rattle.std.proofs.lemmas.List.{append-nil}
 use Rattle.std.proofs.lemmas.List.Sums.{sum_by-cons, sum_by-append}
 use Rattle.std.proofs.lemmas.Bool.{eqb-true}
@@ -11,7 +11,6 @@ use Rattle.law_window.specs.declared.parcel.Parcel.TheVariants as parcel
 use Rattle.spec_window.specs.WindowWords as window_words
 use Rattle.spec_window.specs.Views as views
 use Rattle.spec_window.specs.WindowCalls as window_calls
-use Rattle.spec_window.specs.WindowAgreement as agreement
 use Rattle.law_window.specs.WindowKnown as known
 use Rattle.law_window.specs.WindowPlays as plays
 use Rattle.call_window.specs.WindowPumping as pumping

@@ -1,5 +1,5 @@
 -- How the seats of a window are joined at its close, and what the last looks find.
-use Rattle.std.specs.Prelude.{◌≡◌, ℕ, ◌+◌, ◌<◌, ◌≤◌, nat_eq, Some, List, [], ◌∷◌, ◌++◌, length, map, slice_index}
+use Rattle.std.specs.Prelude.{◌≡◌, ℕ, ◌+◌, ◌<◌, ◌≤◌, nat_eq, Some, List, ◌∷◌, ◌++◌, length, map, slice_index}
 use Rattle.std.specs.List.{AllByRecursion, count_by}
 use Rattle.spec_window.specs.WindowWords as window_words
 use Rattle.spec_window.specs.Views as views

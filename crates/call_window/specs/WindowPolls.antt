@@ -1,5 +1,5 @@
 -- What a caller knows while it polls for the outcome of a number.
-use Rattle.std.specs.Prelude.{◌≡◌, ℕ, ◌+◌, ◌<◌, ◌≤◌, nat_eq, None, Some, List, [], ◌∷◌, MatchBool}
+use Rattle.std.specs.Prelude.{◌≡◌, ℕ, ◌≤◌, nat_eq, Some, [], ◌∷◌, MatchBool}
 use Rattle.ax_types.specs.declared.ops.WindowCall.{WindowCall}
 use Rattle.ax_types.specs.declared.replies.Outcome.{Outcome}
 use Rattle.law_window.specs.declared.parcel.Parcel.TheVariants as parcel

@@ -1,5 +1,5 @@
 -- What the pump knows while it takes a call and while it answers one.
-use Rattle.std.specs.Prelude.{◌≡◌, ◌≢◌, ℕ, ◌+◌, ◌<◌, ◌≤◌, nat_eq, None, Some, List, [], ◌∷◌, ◌++◌, length, MatchBool}
+use Rattle.std.specs.Prelude.{◌≡◌, ◌≢◌, ℕ, ◌+◌, ◌<◌, ◌≤◌, nat_eq, Some, List, [], ◌∷◌, ◌++◌, length, MatchBool}
 use Rattle.std.specs.List.{AllByRecursion}
 use Rattle.ax_types.specs.declared.ops.WindowCall.{WindowCall}
 use Rattle.law_window.specs.declared.parcel.Parcel.TheVariants as parcel

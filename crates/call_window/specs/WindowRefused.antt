@@ -1,5 +1,5 @@
 -- What a caller knows once it drew a number, and why a call is refused.
-use Rattle.std.specs.Prelude.{◌≡◌, ◌≢◌, ℕ, ◌+◌, ◌<◌, ◌≤◌, None, List, [], ◌∷◌}
+use Rattle.std.specs.Prelude.{◌≡◌, ℕ, ◌+◌, ◌<◌, ◌≤◌, None, [], ◌∷◌}
 use Rattle.ax_types.specs.declared.ops.WindowCall.{WindowCall}
 use Rattle.ax_types.specs.declared.refusals.SubmitRefused.{SubmitRefused}
 use Rattle.ax_types.specs.declared.refusals.SubmitRefused.TheVariants as refused

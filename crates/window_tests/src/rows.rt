@@ -23,7 +23,12 @@ fn call_waits_for_pump_and_outcome(rt: HostRuntime) -> Result<(), Fail> {
     assert_eq!(rt; number, 0);
     let (taken, call) = window.take(&mut pump)?;
     assert_eq!(rt; (taken, added(&call)), (0, Some(5)));
-    assert_eq!(rt; take_more(&window, &mut pump, taken).err().map(|empty| empty.found), Some(4));
+    assert_eq!(rt;
+        take_more(&window, &mut pump, taken)
+            .err()
+            .map(|empty| empty.found),
+        Some(4)
+    );
     assert_eq!(rt; poll_early(&window, &mut seat, number)?, 2);
     window.answer(&mut pump, taken, Outcome::Lost);
     assert!(rt; matches!(window.poll(&mut seat, number)?, Outcome::Lost));
@@ -52,8 +57,14 @@ fn full_window_waits_for_its_base(rt: HostRuntime) -> Result<(), Fail> {
     assert_eq!(rt; full_at(refused), Some((64, 0)));
     window.answer(&mut pump, taken, Outcome::Lost);
     assert!(rt; matches!(window.poll(&mut seat, first)?, Outcome::Lost));
-    assert_eq!(rt; full_at(window.submit(&mut seat, adding(alloc, 64)?)), Some((64, 0)));
-    assert_eq!(rt; window.take(&mut pump).err().map(|empty| empty.found), Some(256));
+    assert_eq!(rt;
+        full_at(window.submit(&mut seat, adding(alloc, 64)?)),
+        Some((64, 0))
+    );
+    assert_eq!(rt;
+        window.take(&mut pump).err().map(|empty| empty.found),
+        Some(256)
+    );
     assert_eq!(rt; window.submit(&mut seat, adding(alloc, 64)?)?, 64);
     Ok(())
 }

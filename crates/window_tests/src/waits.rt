@@ -35,11 +35,7 @@ pub fn poll_early(window: &Window, seat: &mut CallerSeat, number: u64) -> Result
 }
 
 /// Takes a call while the number `taken` has no outcome.
-pub fn take_more(
-    window: &Window,
-    pump: &mut Pump,
-    taken: u64,
-) -> Result<(u64, WindowCall), Empty>
+pub fn take_more(window: &Window, pump: &mut Pump, taken: u64) -> Result<(u64, WindowCall), Empty>
     requires window { pump.old.window ≡ window.now.table.shared.table_id }
     requires taken { IsTakenOnly pump.old.pump taken }
     ensures window { pump.new.window ≡ pump.old.window }

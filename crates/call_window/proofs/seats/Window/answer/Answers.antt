@@ -1,4 +1,4 @@
-use Rattle.std.proofs.Common.{◌+◌, ◌≤◌, refl, sym, ap, subst, arith}
+use Rattle.std.proofs.Common.{◌+◌, refl, sym, ap, subst, arith}
 use Rattle.spec_window.specs.Views as views
 use Rattle.law_window.specs.WindowSeats as seats
 use Rattle.call_window.proofs.Pumping.{answered_few, answered_seat}

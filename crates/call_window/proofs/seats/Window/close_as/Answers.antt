@@ -1,4 +1,4 @@
-use Rattle.std.proofs.Common.{◌≡◌, ◌<◌, ◌+◌, ◌++◌, ℕ, List, map, ◌∙◌, ap, subst, arith}
+use Rattle.std.proofs.Common.{◌≡◌, ◌++◌, ℕ, List, map, ◌∙◌, ap, subst, arith}
 use Rattle.std.specs.Prelude.{slice_index_or, take, drop}
 use Rattle.spec_window.specs.Views as views
 use Rattle.spec_window.specs.WindowWords.{window_places}
@@ -34,8 +34,8 @@ invariant_of-result g c =
     let left = c.remove.ensures.by_index.2 ∙ ap (λ (l : List seats.SeatOf). take 0 l ++ drop 1 l) c.into_vec-others.ensures in
     let all = subst (λ (k : ℕ). AreAllSeats k (map (λ s. s.seat) c.args.seats)) c.requires.about c.requires.all in
     (closed_with window_places g.N.About.number c.seat.inside.seat.me p.seat.me c.join.new.seat.me c.join_all.new.seat.me c.look-drawn.new.seat.me c.survey.new.seat.me c.split_seat-seat.result.me (map (λ s. s.seat) c.args.seats) _ p.taken p.base p.answered
-        c.look-drawn.result c.seat.invariant c.pump.invariant (first_seat c.args.seats c.remove.new.self.items c.remove.result _ some value left (ap (λ (s : seats.SeatOf). s.seat) c.seat.view_is)) all c.join.ensures.met c.join_all.ensures.joined
-        c.look-drawn.ensures.seat c.look-drawn.ensures.found c.survey.ensures.surveyed c.split_seat-seat.ensures.4).seat
+    c.look-drawn.result c.seat.invariant c.pump.invariant (first_seat c.args.seats c.remove.new.self.items c.remove.result _ some value left (ap (λ (s : seats.SeatOf). s.seat) c.seat.view_is)) all c.join.ensures.met c.join_all.ensures.joined
+    c.look-drawn.ensures.seat c.look-drawn.ensures.found c.survey.ensures.surveyed c.split_seat-seat.ensures.4).seat
 
 pub returns-clause-closed : goal.returns-clause-closed
 returns-clause-closed g c =
@@ -47,5 +47,5 @@ returns-clause-closed g c =
     let all = subst (λ (k : ℕ). AreAllSeats k (map (λ s. s.seat) c.args.seats)) c.requires.about c.requires.all in
     subst (λ (q : views.PumpView). IsClosed window_places q (map (λ s. s.seat) c.args.seats) c.look-drawn.result p.answered (known.caller_of c.split_seat-seat.result.me.0).seat) (ap (λ (q : seats.PumpOf). q.pump) c.pump.view_is)
     (closed_with window_places g.N.About.number c.seat.inside.seat.me p.seat.me c.join.new.seat.me c.join_all.new.seat.me c.look-drawn.new.seat.me c.survey.new.seat.me c.split_seat-seat.result.me (map (λ s. s.seat) c.args.seats) _ p.taken p.base p.answered
-        c.look-drawn.result c.seat.invariant c.pump.invariant (first_seat c.args.seats c.remove.new.self.items c.remove.result _ some value left (ap (λ (s : seats.SeatOf). s.seat) c.seat.view_is)) all c.join.ensures.met c.join_all.ensures.joined
-        c.look-drawn.ensures.seat c.look-drawn.ensures.found c.survey.ensures.surveyed c.split_seat-seat.ensures.4).closed
+    c.look-drawn.result c.seat.invariant c.pump.invariant (first_seat c.args.seats c.remove.new.self.items c.remove.result _ some value left (ap (λ (s : seats.SeatOf). s.seat) c.seat.view_is)) all c.join.ensures.met c.join_all.ensures.joined
+    c.look-drawn.ensures.seat c.look-drawn.ensures.found c.survey.ensures.surveyed c.split_seat-seat.ensures.4).closed

@@ -1,4 +1,4 @@
-use Rattle.std.proofs.Common.{◌≡◌, ℕ, ◌+◌, ◌*◌, ◌%◌, ◌<◌, [], ◌∷◌, None, Some, List, refl, sym, ap, ◌∙◌, arith}
+use Rattle.std.proofs.Common.{◌≡◌, ℕ, ◌+◌, ◌%◌, [], ◌∷◌, None, Some, sym, ap, ◌∙◌, arith}
 use Rattle.spec_window.specs.WindowWords.{window_places}
 use Rattle.spec_window.specs.WindowWords as window_words
 use Rattle.ax_types.specs.declared.replies.Outcome.{Outcome}

@@ -1,4 +1,4 @@
-use Rattle.std.proofs.Common.{◌≡◌, [], ◌∷◌, ◌++◌, ◌∙◌, refl, sym, ap, subst}
+use Rattle.std.proofs.Common.{◌≡◌, ◌∙◌, refl, ap}
 use Rattle.law_window.specs.WindowSeats as seats
 use Rattle.call_window.proofs.Closing.{joining_none, joining_one, each_before}
 use Rattle.call_window.proofs.seats.Window.join_all.Goals as goal

@@ -1,4 +1,4 @@
-use Rattle.std.proofs.Common.{◌≡◌, ℕ, ◌+◌, ◌<◌, subst, arith}
+use Rattle.std.proofs.Common.{ℕ, subst, arith}
 use Rattle.spec_window.specs.WindowWords.{window_places}
 use Rattle.law_window.specs.WindowPlays as plays
 use Rattle.call_window.proofs.Required as required

@@ -1,4 +1,4 @@
-use Rattle.std.proofs.Common.{◌≡◌, ◌<◌, ℕ, None, sym, subst, arith}
+use Rattle.std.proofs.Common.{◌<◌, ℕ, None, sym, subst, arith}
 use Rattle.std.specs.Prelude.{replicate}
 use Rattle.atomic_table.specs.Table.{opening}
 use Rattle.spec_window.specs.WindowWords.{window_places}

@@ -1,4 +1,4 @@
-use Rattle.std.proofs.Common.{◌≡◌, ℕ, ◌+◌, ◌%◌, ◌<◌, ◌≤◌, refl, ap, ◌∙◌, arith}
+use Rattle.std.proofs.Common.{ℕ, ◌+◌, ◌%◌, refl, ap, ◌∙◌, arith}
 use Rattle.spec_window.specs.WindowWords.{window_places}
 use Rattle.spec_window.specs.WindowWords as window_words
 use Rattle.law_window.specs.WindowKnown as known

@@ -1,6 +1,5 @@
-use Rattle.std.proofs.Common.{◌≡◌, ◌<◌, ◌≤◌, List, sym, ap, subst, ◌∙◌, arith}
+use Rattle.std.proofs.Common.{List, sym, ap, subst, ◌∙◌, arith}
 use Rattle.spec_window.specs.Views as views
-use Rattle.law_window.specs.WindowKnown as known
 use Rattle.law_window.specs.WindowSeats as seats
 use Rattle.spec_window.specs.WindowWords.{window_places}
 use Rattle.call_window.proofs.Drawing.{unanswered_small, getting, polled_seat}

@@ -1,4 +1,4 @@
-use Rattle.std.proofs.Common.{◌≡◌, ◌+◌, ◌%◌, ◌<◌, ◌≤◌, [], ◌∷◌, Some, refl, sym, ap, ◌∙◌, le_refl, arith}
+use Rattle.std.proofs.Common.{◌≡◌, ◌+◌, ◌%◌, [], ◌∷◌, Some, sym, ap, ◌∙◌, le_refl, arith}
 use Rattle.spec_window.specs.WindowWords.{window_places}
 use Rattle.law_window.specs.declared.parcel.Parcel.TheVariants as parcel
 use Rattle.law_window.specs.WindowKnown as known

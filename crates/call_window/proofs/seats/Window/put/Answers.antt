@@ -1,6 +1,5 @@
-use Rattle.std.proofs.Common.{◌≡◌, ℕ, ◌+◌, ◌%◌, ◌<◌, [], ◌∷◌, None, Some, List, length, refl, sym, ap, ap₂, subst, ◌∙◌, arith}
+use Rattle.std.proofs.Common.{◌≡◌, ℕ, ◌+◌, ◌%◌, [], ◌∷◌, None, Some, List, refl, sym, ap, ap₂, ◌∙◌, arith}
 use Rattle.spec_window.specs.WindowWords.{window_places}
-use Rattle.spec_window.specs.WindowWords as window_words
 use Rattle.law_window.specs.declared.parcel.Parcel.TheVariants as parcel
 use Rattle.law_window.specs.WindowKnown as known
 use Rattle.law_window.specs.WindowPlays as plays

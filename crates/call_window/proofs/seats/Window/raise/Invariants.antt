@@ -1,4 +1,4 @@
-use Rattle.std.proofs.Common.{◌≡◌, ◌≤◌}
+use Rattle.std.proofs.Common.{◌≡◌}
 use Rattle.spec_window.specs.WindowWords.{window_places}
 use Rattle.call_window.specs.WindowPumping.{HasClimbed}
 use Rattle.call_window.proofs.seats.Window.raise.Given as goal

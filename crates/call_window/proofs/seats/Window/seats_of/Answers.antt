@@ -1,4 +1,4 @@
-use Rattle.std.proofs.Common.{◌≡◌, ◌+◌, ◌<◌, ◌∙◌, refl, arith}
+use Rattle.std.proofs.Common.{◌+◌, ◌∙◌, refl, arith}
 use Rattle.spec_window.specs.WindowWords.{window_places}
 use Rattle.call_window.proofs.Opening.{splits_one, rest_after, seats_more}
 use Rattle.call_window.proofs.seats.Window.seats_of.Goals as goal
