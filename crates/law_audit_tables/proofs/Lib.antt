@@ -7,3 +7,10 @@ pub mod HeardWalk
 pub mod ReadWalk
 pub mod EndWalk
 pub mod Waiting
+pub mod Digest
+pub mod EndDigest
+pub mod SessionDigests
+pub mod EachSession
+pub mod RightWalk
+pub mod FreshWalk
+pub mod Found

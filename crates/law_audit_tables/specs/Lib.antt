@@ -6,3 +6,9 @@ pub mod HeardWalk
 pub mod ReadWalk
 pub mod EndWalk
 pub mod TablesFound
+pub mod Digest
+pub mod RightWalk
+pub mod FreshWalk
+pub mod DigestsSuffice
+pub mod BySession
+pub mod Found

@@ -2,6 +2,9 @@
 #![tactic(auto)]
 
 ghost use Rattle.law_audit_tables.specs.TablesFound as laws;
+ghost use Rattle.law_audit_tables.specs.DigestsSuffice as suffice;
+ghost use Rattle.law_audit_tables.specs.BySession as by_session;
+ghost use Rattle.law_audit_tables.specs.Found as found;
 
 /// The walk over a history with a table of signs finds whether it is lawful.
 pub fn signs_find_lawful()
@@ -41,4 +44,24 @@ pub fn ends_are_walked()
 /// The calls that wait, as a report tells them, are those without an outcome.
 pub fn waiting_is_told()
     ensures { laws.WaitingIsTold }
+{}
+
+/// The walks for one session find the same in its digest of a report as in the report.
+pub fn digests_suffice()
+    ensures { suffice.DigestsSuffice }
+{}
+
+/// What the items say is right where the walk with the calls above finds it right for each session.
+pub fn right_is_walked()
+    ensures { by_session.RightBySession }
+{}
+
+/// Reads are fresh where the walk with the requests that reached a leader finds them fresh for each session.
+pub fn fresh_is_walked()
+    ensures { by_session.FreshBySession }
+{}
+
+/// The verdict is that of what was found of each condition, whatever the order of the sessions.
+pub fn verdict_is_found()
+    ensures { found.VerdictIsFound }
 {}
