@@ -1,5 +1,5 @@
 -- What the run of a whole script gives.
-use Rattle.std.specs.Prelude.{◌≡◌, List}
+use Rattle.std.specs.Prelude.{◌≡◌, List, length}
 use Rattle.ax_types.specs.declared.scripts.Script.{Script}
 use Rattle.spec_world.specs.Worlds as worlds
 use Rattle.spec_run.specs.Run as runs
@@ -17,5 +17,6 @@ pub record RunsScript (s : Script) (states : List matching.StoreState) (r : Ran)
   pub ends : carrying.IsRunToEnd (world_of_script s) (runs.works_of s.lines) all r.end
   pub items : r.items.items ≡ all.transcript
   pub history : r.history.items ≡ all.world.history
+  pub steps : r.steps ≡ length all.kept
   pub stores : matching.StoresMatch all.world.hosts states
   pub telling : matching.AreTelling states

@@ -11,11 +11,12 @@ use std::alloc::Global;
 use store_journal::NodeStore;
 use watch_hooks::Filters;
 
-/// What the run of a script showed: its items, the history, and how it ended.
+/// What the run of a script showed: its items, the history, how many steps were made, and how it ended.
 #[derive(Drop)]
 pub struct Ran {
     pub items: Vec<Item>,
     pub history: Vec<(u64, Act)>,
+    pub steps: u64,
     pub end: RunEnd,
 }
 
@@ -38,10 +39,12 @@ pub fn run_script<S: NodeStore>(
 {
     let mut world = World::open(alloc, script.nodes, script.clients, script.timeout)?;
     let end = run_lines(&mut world, stores, script.lines.as_slice(), filters)?;
+    let steps = world.kept().len() as u64;
     let (items, history) = world.into_shown();
     Ok(Ran {
         items,
         history,
+        steps,
         end,
     })
 }

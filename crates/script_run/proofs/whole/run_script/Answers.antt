@@ -1,5 +1,5 @@
 -- The whole run of a script, from the run of its lines.
-use Rattle.std.proofs.Common.{ap}
+use Rattle.std.proofs.Common.{length, ap, ◌∙◌}
 use Rattle.script_run.specs.RunsInCode as in_code
 use Rattle.script_run.specs.ScriptRuns as script_runs
 use Rattle.script_run.proofs.Carrying as lemmas
@@ -14,6 +14,7 @@ returns g c = record {
         (ap in_code.so_far c.in_ok-world.ensures.opened) c.as_slice.ensures (c.in_ok-end.ensures.runs tells);
     items = c.into_shown-items.ensures.items;
     history = c.into_shown-items.ensures.history;
+    steps = c.len.ensures ∙ ap length c.kept.ensures;
     stores = c.in_ok-end.ensures.ready.ready.matches;
     telling = c.in_ok-end.ensures.ready.telling tells;
   };
