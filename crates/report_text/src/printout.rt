@@ -13,6 +13,13 @@ use ax_types::{Act, ClientId, Event, Item, NoMemory, Outcome, RunEnd, WatchKind}
 use std::alloc::Global;
 use std::marker::Model;
 
+/// The first line of a report, with its newline.
+pub fn head_text() -> &'static str
+    ensures { result.now ≡ spec.head_text }
+{
+    "report 1\n"
+}
+
 /// The lines of a report, of which each is written whole or not at all: after want of memory they are as before.
 #[derive(Drop)]
 pub struct Printout {
@@ -65,7 +72,7 @@ impl Printout {
         ensures written { OnOk result (self.new ≡ self.old ++ spec.head_text) }
         ensures unwritten { OnErr result (self.new ≡ self.old) }
     {
-        Ok(self.text.push_str("report 1\n")?)
+        Ok(self.text.push_str(head_text())?)
     }
 
     /// Writes the line of an item.

@@ -1,9 +1,9 @@
-ghost use Rattle.std.specs.Prelude.{◌≡◌, ◌≢◌, OnOk, IfOk, string_bytes, ◌++◌};
+ghost use Rattle.std.specs.Prelude.{◌≡◌, ◌≢◌, OnOk, string_bytes, ◌++◌};
 ghost use Rattle.std.specs.List.{AllByRecursion};
 ghost use Rattle.spec_report.specs.Items as items_spec;
 ghost use Rattle.spec_report.specs.Report as spec;
 ghost use Rattle.spec_report.specs.ReportValues as report_values;
-ghost use Rattle.report_text.specs.WholeText as texts;
+ghost use Rattle.report_text.specs.RestText as texts;
 
 use crate::calls::write_op;
 use crate::items::write_read;
@@ -11,7 +11,6 @@ use crate::pieces::{blank, one_operand, two_operands, word};
 use crate::printout::Printout;
 use crate::replies::write_reply;
 use ax_types::{Act, Item, NoMemory, Outcome, Report, RunEnd};
-use std::alloc::Global;
 
 fn write_act(line: &mut String, act: &Act) -> Result<(), NoMemory>
     ensures written { OnOk result (string_bytes line.new ≡ string_bytes line.old ++ spec.act_text act.now) }
@@ -81,7 +80,7 @@ pub fn write_outcome(line: &mut String, outcome: &Outcome) -> Result<(), NoMemor
 }
 
 /// Writes the lines of items.
-fn write_items(text: &mut Printout, items: &[Item]) -> Result<(), NoMemory>
+pub fn write_items(text: &mut Printout, items: &[Item]) -> Result<(), NoMemory>
     ensures written { OnOk result (text.new ≡ text.old ++ items_spec.items_text items.now) }
     ensures fits { OnOk result (AllByRecursion report_values.FitsItem items.now) }
 {
@@ -116,16 +115,14 @@ fn write_waiting(text: &mut Printout, waiting: &[(u64, u64)]) -> Result<(), NoMe
     Ok(())
 }
 
-/// The text of a report.
-pub fn whole_text(alloc: Global, report: &Report) -> Result<String, NoMemory>
-    ensures written { IfOk result (λ t. string_bytes t ≡ texts.whole_text report.now) }
-    ensures fits { IfOk result (λ _. report_values.FitsReport report.now) }
+/// Writes what stands behind the items of a report: its history, its calls without an outcome, and how its run ended.
+pub fn write_rest(text: &mut Printout, report: &Report) -> Result<(), NoMemory>
+    ensures written { OnOk result (text.new ≡ text.old ++ texts.rest_text report.now) }
+    ensures fits_history { OnOk result (AllByRecursion report_values.FitsHistoryEntry report.now.history) }
+    ensures fits_waiting { OnOk result (AllByRecursion report_values.FitsCallNumber report.now.waiting) }
+    ensures fits_end { OnOk result (report_values.FitsRunEnd report.now.end) }
 {
-    let mut text = Printout::new(alloc);
-    text.write_head()?;
-    write_items(&mut text, report.items.as_slice())?;
-    write_history(&mut text, report.history.as_slice())?;
-    write_waiting(&mut text, report.waiting.as_slice())?;
-    text.write_end(report.end)?;
-    Ok(text.into_string())
+    write_history(text, report.history.as_slice())?;
+    write_waiting(text, report.waiting.as_slice())?;
+    text.write_end(report.end)
 }

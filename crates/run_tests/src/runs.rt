@@ -139,3 +139,26 @@ fn faults_are_told(rt: HostRuntime) -> Result<(), Fail> {
     assert!(rt; sink.taken().is_empty());
     Ok(())
 }
+
+#[test]
+fn a_text_goes_out_step_by_step_and_json_at_the_end(rt: HostRuntime) -> Result<(), Fail> {
+    let alloc = rt.alloc();
+    let words = vec![in alloc; String::from_str(alloc, "run")?]?;
+    let puts = List::from_vec(vec![in alloc; (3u64, 4u64)]?);
+    let (status, sink) = outcome(alloc, words.as_slice(), ONE_ADD, List::new(alloc), puts)?;
+    assert_eq!(rt; status, Status::WriteFault);
+    assert_eq!(rt;
+        sink.taken().as_slice(),
+        b"report 1\nleader 1 1\ncommit 1\ncomm".as_slice()
+    );
+
+    let words = vec![in alloc;
+        String::from_str(alloc, "run")?,
+        String::from_str(alloc, "--json")?,
+    ]?;
+    let puts = List::from_vec(vec![in alloc; (1u64, 7u64)]?);
+    let (status, sink) = outcome(alloc, words.as_slice(), ONE_ADD, List::new(alloc), puts)?;
+    assert_eq!(rt; status, Status::WriteFault);
+    assert_eq!(rt; sink.taken().as_slice(), b"{\"end\":".as_slice());
+    Ok(())
+}

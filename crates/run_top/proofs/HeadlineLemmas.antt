@@ -1,12 +1,11 @@
 -- What was written of a script's run stands by the headline.
 use Rattle.std.proofs.Common.{◌≡◌, ℕ, List, [], ◌∷◌, length, take, map, refl, ap, sym, ◌∙◌, subst}
-use Rattle.std.specs.Prelude.{Bool, Option, Some, None, IfSome, Result, Ok, Err}
+use Rattle.std.specs.Prelude.{Bool, Option, Some, None, IfSome, Result, Ok}
 use Rattle.ax_types.specs.declared.entries.Loaded.{Loaded}
 use Rattle.ax_types.specs.declared.scripts.RunEnd.{RunEnd}
 use Rattle.ax_types.specs.declared.scripts.RunEnd.TheVariants as ends
 use Rattle.ax_types.specs.declared.scripts.Script.{Script}
 use Rattle.ax_types.specs.declared.statuses.Status.{Status}
-use Rattle.ax_io.specs.Content as ax_io_content
 use Rattle.spec_script.specs.Scripts as scripts
 use Rattle.spec_world.specs.Worlds as worlds
 use Rattle.spec_run.specs.KeptStores as kept_stores
@@ -40,20 +39,21 @@ told_contents [] states m t = record { contents = []; same = refl; are = tt }
 told_contents (h ∷ hosts) [] m t = absurd m
 told_contents (h ∷ hosts) (s ∷ states) m t = told_next h hosts s states s.told refl m.0.content t.0 (told_contents hosts states m.1 t.1)
 
-report_stands_by : (json : Bool) (s : Script) (states : List matching.StoreState) (before now : Option (List ℕ)) (end : RunEnd) (text : List ℕ) → script_limits.IsScriptWithin s
-    → report_forms.ReportsRun (report_forms.report_in json) s states text end → now ≡ ax_io_content.append_told before text → outcomes.StandsBy (Some json) (Ok s) states before now end
-report_stands_by json s states before now end text within r w =
+pub stands_by : (json : Bool) (s : Script) (asked : Option Bool) (meant : Result Script scripts.Refusal) (states : List matching.StoreState) (before now : Option (List ℕ)) (end : RunEnd) → script_limits.IsScriptWithin s
+    → asked ≡ Some json → meant ≡ Ok s → report_forms.WritesReport json s states before now end → outcomes.StandsBy asked meant states before now end
+stands_by json s asked meant states before now end within form read w =
+    let r = w.reports in
     let numbers = runs_have_numbers s.nodes s.clients s.timeout r.all.kept in
     let told : ToldBy r.all.world.hosts states = told_contents r.all.world.hosts states r.stores r.telling in
     record {
       json = json;
-      form = refl;
+      form = form;
       script = s;
-      read = refl;
-      text = text;
+      read = read;
+      text = w.text;
       contents = told.contents;
       kept = subst (λ n. take n (map (λ (x : matching.StoreState). x.told) states) ≡ map stores.Content told.contents) (sym (ap (λ (v : worlds.World). length v.hosts) r.ends.world) ∙ numbers.hosts) told.same;
-      headline = report_stands (report_forms.report_in json) s told.contents text end within.some (record {
+      headline = report_stands (report_forms.report_in json) s told.contents w.text end within.some (record {
         kept = r.all.kept;
         world = r.all.world;
         items = r.all.transcript;
@@ -61,14 +61,8 @@ report_stands_by json s states before now end text within r w =
         stores = told.are;
         reported = r.reported;
       });
-      written = w;
+      written = w.written;
     }
-
-pub stands_by : (asked : Option Bool) (meant : Result Script scripts.Refusal) (states : List matching.StoreState) (before now : Option (List ℕ)) (end : RunEnd) (text : List ℕ)
-    → ((s : Script) → meant ≡ Ok s → script_limits.IsScriptWithin s) → outcomes.ReportsAsked asked meant states text end → now ≡ ax_io_content.append_told before text → outcomes.StandsBy asked meant states before now end
-stands_by asked (Err r) states before now end text within reports w = absurd reports
-stands_by None (Ok s) states before now end text within reports w = absurd reports
-stands_by (Some json) (Ok s) states before now end text within reports w = report_stands_by json s states before now end text (within s refl) reports w
 
 if_some : (content : Option (List ℕ)) (P Q : List ℕ → Type 0) → ((bytes : List ℕ) → P bytes → Q bytes) → IfSome content P → IfSome content Q
 if_some None P Q f h = h

@@ -1,2 +1,4 @@
 pub mod SourceLemmas
 pub mod HeadlineLemmas
+pub mod OpenedStores
+pub mod StreamedLemmas

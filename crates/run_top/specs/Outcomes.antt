@@ -1,8 +1,6 @@
 -- What the program's answer says.
-use Rattle.std.specs.Prelude.{◌≡◌, ◌⊎◌, ⊤, ℕ, Bool, true, false, List, take, map, Option, Some, None, Result, Ok, Err, IfSome, IsOkAnd}
-use Rattle.ax_types.specs.declared.entries.Act.{Act}
+use Rattle.std.specs.Prelude.{◌≡◌, ◌⊎◌, ⊤, ℕ, Bool, true, List, take, map, Option, Some, None, Result, Ok, Err, IsOkAnd}
 use Rattle.ax_types.specs.declared.entries.Loaded.{Loaded}
-use Rattle.ax_types.specs.declared.items.Item.{Item}
 use Rattle.ax_types.specs.declared.scripts.RunEnd.{RunEnd}
 use Rattle.ax_types.specs.declared.scripts.RunEnd.TheVariants as ends
 use Rattle.ax_types.specs.declared.scripts.Script.{Script}
@@ -11,13 +9,12 @@ use Rattle.ax_types.specs.declared.statuses.Status.TheVariants as status
 use Rattle.ax_io.specs.Content as ax_io_content
 use Rattle.spec_script.specs.Scripts as scripts
 use Rattle.store_journal.specs.StoreTold as stores
+use Rattle.ax_types.specs.Places as lists
 use Rattle.store_opening.specs.Opened as opened
 use Rattle.store_opening.specs.declared.opening.Finding.TheVariants as finding
 use Rattle.world_hosts.specs.StoresMatch as matching
 use Rattle.script_report.specs.ReportForms as report_forms
-use Rattle.script_report.specs.declared.report.Written.{Written}
 use Rattle.law_headline.specs.Headline as headlines
-use Rattle.run_top.specs.Answers as run_top_answers
 use Rattle.run_top.specs.Judging as judging
 use Rattle.command_words.specs.declared.words.WordsRefused.{WordsRefused}
 use Rattle.command_words.specs.declared.words.WordsRefused.TheVariants as words_refused
@@ -53,16 +50,15 @@ RefusesScript told needs_load faults before now meant (refused.StoreNotEmpty nod
 RefusesScript told needs_load faults before now meant (refused.StoreFault node) = IsOkAnd meant (λ s. opened.EndsAt told needs_load faults s.nodes node finding.Faulty before now)
 RefusesScript told needs_load faults before now meant _ = ⊤
 
--- a report that was asked for in this form is that of a run of the script, which left the stores so
-abbrev pub ReportsAsked : Option Bool → Result Script scripts.Refusal → List matching.StoreState → List ℕ → RunEnd → Type 0
-ReportsAsked asked (Err r) states text end = ⊥
-ReportsAsked None (Ok s) states text end = ⊥
-ReportsAsked (Some json) (Ok s) states text end = report_forms.ReportsRun (report_forms.report_in json) s states text end
+-- each store tells what it told
+abbrev pub TellAlike : {S : Type 0} → (S → stores.Told) → List S → List S → Type 0
+TellAlike told before now = (k : ℕ) → opened.TellSame told (lists.at_place before k) (lists.at_place now k)
 
--- a script was taken
-abbrev pub ScriptIsTaken : Result Script scripts.Refusal → Type 0
-ScriptIsTaken (Ok s) = ⊤
-ScriptIsTaken (Err r) = ⊥
+-- a script was taken whose report was asked for, as JSON or as a text, and this holds of both
+abbrev pub OfAsked : Option Bool → Result Script scripts.Refusal → (Bool → Script → Type 0) → Type 0
+OfAsked asked (Err r) P = ⊥
+OfAsked None (Ok s) P = ⊥
+OfAsked (Some json) (Ok s) P = P json s
 
 -- a refusal before the stores were opened leaves them
 abbrev pub LeavesStores : Refused → Type 0 → Type 0
@@ -122,23 +118,28 @@ IfEnded (status.StepLimit line) P = P (ends.StepLimit line)
 IfEnded _ P = ⊤
 
 -- the report of the script's run was written, whole
-pub record WritesReport (asked : Option Bool) (meant : Result Script scripts.Refusal) (states : List matching.StoreState) (before now : Option (List ℕ)) (end : RunEnd) : Type 0 where
-  pub text : List ℕ
-  pub reports : ReportsAsked asked meant states text end
-  pub written : now ≡ ax_io_content.append_told before text
+abbrev pub WritesReport : Option Bool → Result Script scripts.Refusal → List matching.StoreState → Option (List ℕ) → Option (List ℕ) → RunEnd → Type 0
+WritesReport asked meant states before now end = OfAsked asked meant (λ json s. report_forms.WritesReport json s states before now end)
 
--- a front of it was
-pub record WritesFront (asked : Option Bool) (meant : Result Script scripts.Refusal) (states : List matching.StoreState) (before now : Option (List ℕ)) : Type 0 where
-  pub text : List ℕ
-  pub end : RunEnd
-  pub reports : ReportsAsked asked meant states text end
-  pub front : ax_io_content.TakesFront before now text
+-- a front of the report of the steps made
+abbrev pub WritesFront : Option Bool → Result Script scripts.Refusal → List matching.StoreState → Option (List ℕ) → Option (List ℕ) → Type 0
+WritesFront asked meant states before now = OfAsked asked meant (λ json s. report_forms.WritesFront json s states before now)
+
+-- the first line and the lines of first steps of the run
+abbrev pub WritesLines : Option Bool → Result Script scripts.Refusal → Option (List ℕ) → Option (List ℕ) → Type 0
+WritesLines asked meant before now = OfAsked asked meant (λ json s. report_forms.WritesLines json s before now)
+
+-- the sink was not called: by then no store kept anything more, or the report was to be JSON
+pub record IsUnwritten {O : Type 0} (asked : Option Bool) (alike : Type 0) (before now : O) : Type 0 where
+  pub sink : now ≡ before
+  pub why : alike ⊎ (asked ≡ Some true)
 
 -- the sink was not called
 abbrev pub IfNotWritten : Status → Type 0 → Type 0
 IfNotWritten status.Done P = ⊤
 IfNotWritten (status.StepLimit line) P = ⊤
 IfNotWritten status.WriteFault P = ⊤
+IfNotWritten status.NoMemory P = ⊤
 IfNotWritten _ P = P
 
 -- no store was called

@@ -1,7 +1,7 @@
 //! The run of the program: from its words and the bytes that come in to the bytes that go out.
 #![tactic(auto)]
 
-ghost use Rattle.std.specs.Prelude.{◌≡◌, ◌≢◌, ◌≤◌, map, length, string_bytes, IfSome};
+ghost use Rattle.std.specs.Prelude.{◌≡◌, ◌≢◌, ◌≤◌, ◌⊎◌, map, length, string_bytes, IfSome};
 ghost use Rattle.ax_types.specs.declared.limits.TheConstants.{MAX_NODES};
 ghost use Rattle.ax_io.specs.Count as counts;
 ghost use Rattle.world_hosts.specs.StoresMatch as matching;
@@ -12,16 +12,17 @@ ghost use Rattle.run_top.specs.SourceRests as source_rests;
 mod reading;
 mod refusals;
 
-use crate::reading::report;
-use crate::refusals::ended;
+use crate::reading::read_request;
+use crate::refusals::{ended, given_up};
 use ax_io::{Sink, Source};
 use ax_types::Status;
+use script_report::report_of_script;
 use std::alloc::Global;
 use store_journal::NodeStore;
 use watch_hooks::Filters;
 
 /// Runs the program: reads the words and then the input, opens the stores of the script's nodes, runs the script, and writes the
-/// report. There is a store for each of the 9 nodes that a cluster may have.
+/// report, as a text while the script runs, or as JSON when it has ended. There is a store for each of the 9 nodes that a cluster may have.
 pub fn run_top<I: Source, O: Sink, S: NodeStore>(
     alloc: Global,
     words: &[String],
@@ -52,9 +53,16 @@ pub fn run_top<I: Source, O: Sink, S: NodeStore>(
     // Where all stores tell what they keep, what is written is the report of the run that the definitions give for the script.
     ensures written { matching.AreTelling (matching.store_states_of S.told S.needs_load stores.old.items) → outcomes.IfEnded result (λ end. IfSome (I.content input.old)
         (λ content. outcomes.WritesReport (answers.form_asked (map string_bytes words.now)) (answers.judged (outcomes.input_bytes content)) (matching.store_states_of S.told S.needs_load stores.new.items) (O.content output.old) (O.content output.new) end)) }
+    // After a failed write it is a front of the report of the steps that were made.
     ensures front { result ≡ Status.WriteFault → matching.AreTelling (matching.store_states_of S.told S.needs_load stores.old.items) → IfSome (I.content input.old)
         (λ content. outcomes.WritesFront (answers.form_asked (map string_bytes words.now)) (answers.judged (outcomes.input_bytes content)) (matching.store_states_of S.told S.needs_load stores.new.items) (O.content output.old) (O.content output.new)) }
-    // Where neither all nor a part of a report was written, the sink was not called; nor was the source for words that are refused, or
+    // After want of memory nothing was written, by when the stores were not yet run or the report is JSON, or exactly the first line of a
+    // text report and the lines of first steps of the run.
+    ensures part { result ≡ Status.NoMemory →
+        outcomes.IsUnwritten (answers.form_asked (map string_bytes words.now)) (outcomes.TellAlike S.told stores.old.items stores.new.items) output.old output.new
+        ⊎ (matching.AreTelling (matching.store_states_of S.told S.needs_load stores.old.items) → IfSome (I.content input.old)
+        (λ content. outcomes.WritesLines (answers.form_asked (map string_bytes words.now)) (answers.judged (outcomes.input_bytes content)) (O.content output.old) (O.content output.new))) }
+    // At every other answer the sink was not called; nor was the source for words that are refused, or
     // a store where no script was taken.
     ensures quiet { outcomes.IfNotWritten result (output.new ≡ output.old) }
     ensures unread { result ≡ Status.Usage → input.new ≡ input.old }
@@ -66,12 +74,19 @@ pub fn run_top<I: Source, O: Sink, S: NodeStore>(
     ensures headline { matching.AreTelling (matching.store_states_of S.told S.needs_load stores.old.items) → outcomes.IfEnded result (λ end. IfSome (I.content input.old)
         (λ content. outcomes.StandsBy (answers.form_asked (map string_bytes words.now)) (answers.judged (outcomes.input_bytes content)) (matching.store_states_of S.told S.needs_load stores.new.items) (O.content output.old) (O.content output.new) end)) }
 {
-    let written = match report(alloc, words, input, stores, filters) {
-        Ok(written) => written,
+    let request = match read_request(alloc, words, input, stores) {
+        Ok(request) => request,
         Err(refused) => return refused.status(),
     };
-    match output.put(written.text.as_bytes()) {
-        Ok(()) => ended(written.end),
-        Err(_) => Status::WriteFault,
+    match report_of_script(
+        alloc,
+        &request.script,
+        stores,
+        output,
+        request.json,
+        filters,
+    ) {
+        Ok(end) => ended(end),
+        Err(why) => given_up(why),
     }
 }

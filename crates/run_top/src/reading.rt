@@ -1,8 +1,9 @@
-ghost use Rattle.std.specs.Prelude.{◌≡◌, ◌≤◌, map, length, string_bytes, IsErrOf, IfErr, IfOk, IfSome};
+ghost use Rattle.std.specs.Prelude.{◌≡◌, ◌≤◌, Ok as IsGood, Some as IsSome, map, length, string_bytes, IsErrOf, IfErr, IfOk, IfSome};
 ghost use Rattle.ax_types.specs.declared.limits.TheConstants.{MAX_NODES};
 ghost use Rattle.ax_io.specs.Count as counts;
 ghost use Rattle.law_script.specs.ScriptsWithin as script_limits;
 ghost use Rattle.world_hosts.specs.StoresMatch as matching;
+ghost use Rattle.script_run.specs.ScriptRuns as script_runs;
 ghost use Rattle.run_top.specs.Answers as answers;
 ghost use Rattle.run_top.specs.Judging as judging;
 ghost use Rattle.run_top.specs.Outcomes as outcomes;
@@ -13,11 +14,17 @@ use ax_io::{Source, read_up_to};
 use ax_types::limits::MAX_SCRIPT;
 use ax_types::{Command, Script};
 use command_words::{WordsRefused, command_of};
-use script_report::{Written, report_of_script};
 use script_text::{ScriptRefused, read_script};
 use std::alloc::Global;
 use store_journal::NodeStore;
-use watch_hooks::Filters;
+use store_opening::open_stores;
+
+/// A run that is asked for: its script, and whether its report is to be JSON.
+#[derive(Drop)]
+pub struct Request {
+    pub script: Script,
+    pub json: bool,
+}
 
 /// Accepts the command `run`, and no other yet. Answers whether the report is asked for as JSON.
 fn accept(alloc: Global, words: &[String]) -> Result<bool, WordsRefused>
@@ -41,14 +48,14 @@ fn script_of(alloc: Global, bytes: &[u8]) -> Result<Script, Refused>
     }
 }
 
-/// The report that the words and the input ask for, and how its run ended.
-pub fn report<I: Source, S: NodeStore>(
+#[tactic(auto, using(crate::proofs::OpenedStores::tells_same))]
+/// The run that the words and the input ask for. The stores of its nodes were opened, and have to be empty.
+pub fn read_request<I: Source, S: NodeStore>(
     alloc: Global,
     words: &[String],
     input: &mut I,
     stores: &mut Vec<S>,
-    filters: &Filters,
-) -> Result<Written, Refused>
+) -> Result<Request, Refused>
     requires { MAX_NODES ≤ length stores.old.items }
     ensures usage { outcomes.Accepts (answers.form_asked (map string_bytes words.now)) result }
     ensures unread { IsErrOf result Refused.Usage → input.new ≡ input.old }
@@ -58,13 +65,15 @@ pub fn report<I: Source, S: NodeStore>(
     ensures read_fault { IsErrOf result Refused.ReadFault → counts.Rose (I.faults input.old) (I.faults input.new) }
     ensures refused { IfErr result (λ e. IfSome (I.content input.old) (λ content. outcomes.RefusesScript S.told S.needs_load S.faults stores.old.items stores.new.items (answers.judged (outcomes.input_bytes content)) e)) }
     ensures unopened { IfErr result (λ e. outcomes.LeavesStores e (stores.new ≡ stores.old)) }
-    ensures reports { matching.AreTelling (matching.store_states_of S.told S.needs_load stores.old.items) → IfOk result (λ w. IfSome (I.content input.old)
-        (λ content. outcomes.ReportsAsked (answers.form_asked (map string_bytes words.now)) (answers.judged (outcomes.input_bytes content)) (matching.store_states_of S.told S.needs_load stores.new.items) (string_bytes w.text) w.end)) }
-    ensures taken { IfOk result (λ w. IfSome (I.content input.old) (λ content. outcomes.ScriptIsTaken (answers.judged (outcomes.input_bytes content)))) }
+    ensures told { outcomes.TellAlike S.told stores.old.items stores.new.items }
+    ensures form { IfOk result (λ r. answers.form_asked (map string_bytes words.now) ≡ IsSome r.json) }
+    ensures read { IfOk result (λ r. IfSome (I.content input.old) (λ content. answers.judged (outcomes.input_bytes content) ≡ IsGood r.script)) }
+    ensures within { IfOk result (λ r. script_limits.IsScriptWithin r.script) }
+    ensures opened { IfOk result (λ r. matching.StoresMatch (script_runs.world_of_script r.script).hosts (matching.store_states_of S.told S.needs_load stores.new.items)) }
 {
     let json = accept(alloc, words)?;
     let bytes = read_up_to(alloc, input, MAX_SCRIPT + 1)?;
     let script = script_of(alloc, bytes.as_slice())?;
-    let written = report_of_script(alloc, &script, json, stores, filters)?;
-    Ok(written)
+    open_stores(stores, script.nodes)?;
+    Ok(Request { script, json })
 }

@@ -5,6 +5,7 @@ ghost use Rattle.run_top.specs.Statuses as spec;
 use ax_io::ReadError;
 use ax_types::{NoMemory, RunEnd, Status, Why};
 use command_words::WordsRefused;
+use script_run::GivenUp;
 use store_opening::OpenRefused;
 
 /// Why nothing is written.
@@ -31,6 +32,16 @@ impl Refused {
             Refused::StoreFault { node } => Status::StoreFault { node },
             Refused::NoMemory => Status::NoMemory,
         }
+    }
+}
+
+/// The status of a run that was given up.
+pub fn given_up(why: GivenUp) -> Status
+    ensures { result ≡ spec.of_given_up why }
+{
+    match why {
+        GivenUp::NoMemory => Status::NoMemory,
+        GivenUp::WriteFault => Status::WriteFault,
     }
 }
 

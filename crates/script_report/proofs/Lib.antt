@@ -1,1 +1,1 @@
-pub mod OpenedStores
+pub mod Streamed

@@ -1,6 +1,6 @@
-//! The report of a script: its stores are opened, it is run, and what it showed is written as a text or as JSON.
+//! The report of a script: it is run, and what it shows is written, as a text while it runs, or as JSON at its end.
 #![tactic(auto)]
 
 mod report;
 
-pub use report::{Written, report_of_script};
+pub use report::report_of_script;

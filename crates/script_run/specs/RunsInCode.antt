@@ -1,21 +1,18 @@
 -- A world and its stores between the steps of a script.
-use Rattle.std.specs.Prelude.{ℕ, ◌≡◌, ◌≤◌, Bool, false, List, [], ◌∷◌, length}
+use Rattle.std.specs.Prelude.{ℕ, ◌≡◌, ◌≤◌, Bool, true, false, Option, Result, Err, List, [], ◌∷◌, length}
+use Rattle.ax_io.specs.Count as counts
 use Rattle.ax_types.specs.declared.limits.TheConstants.{MAX_STEPS}
 use Rattle.ax_types.specs.declared.steps.Step.TheVariants as step
-use Rattle.ax_types.specs.declared.scripts.Line.{Line}
-use Rattle.ax_types.specs.declared.scripts.RunEnd.{RunEnd}
 use Rattle.spec_run.specs.Run as runs
 use Rattle.ax_world.specs.OpenWorlds as open_worlds
 use Rattle.world_hosts.specs.StoresMatch as matching
 use Rattle.script_run.specs.Carrying as carrying
+use Rattle.script_run.specs.declared.telling.GivenUp.{GivenUp}
+use Rattle.script_run.specs.declared.telling.GivenUp.TheVariants as given_up
 
--- a world and what its stores tell
-pub record Scene : Type 0 where
-  pub world : open_worlds.OpenWorld
-  pub states : List matching.StoreState
-
-abbrev pub so_far : open_worlds.OpenWorld → carrying.RunSoFar
-so_far w = record { world = w.world; kept = w.kept; transcript = w.transcript }
+-- a run so far, by whether it is reported as JSON and what the sink took
+abbrev pub so_far : Bool → Option (List ℕ) → open_worlds.OpenWorld → carrying.RunSoFar
+so_far json written w = record { world = w.world; kept = w.kept; transcript = w.transcript; json = json; written = written }
 
 -- a further step may be asked for
 pub record MayGoOn (w : open_worlds.OpenWorld) (states : List matching.StoreState) : Type 0 where
@@ -35,8 +32,20 @@ abbrev pub settle_jobs : ℕ → List runs.Job
 settle_jobs k = runs.Deliver_all ∷ runs.Make (step.Beat k) ∷ runs.Deliver_all ∷ runs.Make (step.Beat k) ∷ runs.Deliver_all ∷ []
 
 -- what carries out jobs of a line whichever line it is, where the stores tell what they keep
-abbrev pub CarriesOut : List runs.Job → open_worlds.OpenWorld → open_worlds.OpenWorld → Bool → Type 0
-CarriesOut jobs before after went = (line : ℕ) → carrying.Carries line jobs (so_far before) (so_far after) went
+abbrev pub CarriesOut : List runs.Job → carrying.RunSoFar → carrying.RunSoFar → Result Bool GivenUp → Type 0
+CarriesOut jobs before after went = (line : ℕ) → carrying.Carries line jobs before after went
 
-abbrev pub EndsLines : List (ℕ × Line) → open_worlds.OpenWorld → open_worlds.OpenWorld → RunEnd → Type 0
-EndsLines lines before after end = carrying.RunsLines lines (so_far before) (so_far after) end
+-- memory was not wanted
+abbrev pub UnlessNoMemory : {A : Type 0} → Result A GivenUp → Type 0 → Type 0
+UnlessNoMemory (Err given_up.NoMemory) P = Unit {0}
+UnlessNoMemory _ P = P
+
+-- the count of faults of a sink stands, unless a write failed
+abbrev pub Counts : {A : Type 0} → ℕ → ℕ → Result A GivenUp → Type 0
+Counts before now (Err given_up.WriteFault) = (before ≤ now) × counts.Rose before now
+Counts before now _ = now ≡ before
+
+-- the sink after a call: it is called for a text report alone
+pub record LeavesSink {A O : Type 0} (json : Bool) (faults : O → ℕ) (before now : O) (r : Result A GivenUp) : Type 0 where
+  pub count : Counts (faults before) (faults now) r
+  pub silent : json ≡ true → now ≡ before

@@ -3,6 +3,8 @@
 #![tactic(auto)]
 
 mod lines;
+mod telling;
 mod whole;
 
+pub use telling::GivenUp;
 pub use whole::{Ran, run_script};

@@ -3,7 +3,7 @@ use ax_types::{
     Act, ClientId, Event, Item, Key, Level, Life, List, MapOp, Name, Op, Outcome, Reply, Report,
     RunEnd, Text, WatchKind, WindowCall,
 };
-use report_text::{Printout, json_text, waiting_of, whole_text};
+use report_text::{Printout, json_text, waiting_of, write_items, write_rest};
 use std::alloc::Global;
 use std::test::Fail;
 
@@ -50,15 +50,22 @@ fn a_report_has_lines(rt: HostRuntime) -> Result<(), Fail> {
     let mut history = List::new(alloc);
     history.push((0, Act::Nothing))?;
     history.push((499, put))?;
+    let mut items = List::new(alloc);
+    items.push(called(alloc)?)?;
+    let waiting = waiting_of(alloc, items.as_slice())?;
     let report = Report {
-        items: List::new(alloc),
+        items,
         history,
-        waiting: List::new(alloc),
+        waiting,
         end: RunEnd::StepLimit { line: 9 },
     };
+    let mut text = Printout::new(alloc);
+    text.write_head()?;
+    write_items(&mut text, report.items.as_slice())?;
+    write_rest(&mut text, &report)?;
     assert_eq!(rt;
-        whole_text(alloc, &report)?.as_str(),
-        "report 1\nhistory 2\n1 0 nothing\n2 499 do 2 map m put_for a \"1\\ 500\nend step-limit 9\n"
+        text.into_string().as_str(),
+        "report 1\ncalled 2 1 call map m put_for a \"1\\ 500\nhistory 2\n1 0 nothing\n2 499 do 2 map m put_for a \"1\\ 500\nwaiting 2 1\nend step-limit 9\n"
     );
     Ok(())
 }

@@ -1,4 +1,4 @@
-use Rattle.std.proofs.Common.{◌-◌, length}
+use Rattle.std.proofs.Common.{◌≡◌, ◌-◌, length, true}
 use Rattle.ax_types.specs.declared.limits.TheConstants.{MAX_STEPS}
 use Rattle.world_hosts.specs.StoresMatch as matching
 use Rattle.script_run.specs.Carrying as carrying
@@ -10,7 +10,9 @@ abbrev pub invariant-packets : goal.invariant-packets
 invariant-packets g l = record {
   ready : in_code.MayGoOn l.world (matching.store_states_of g.S.NodeStore.told g.S.NodeStore.needs_load l.stores.items);
   telling : matching.AreTelling (matching.store_states_of g.S.NodeStore.told g.S.NodeStore.needs_load l.fn.stores.items) → matching.AreTelling (matching.store_states_of g.S.NodeStore.told g.S.NodeStore.needs_load l.stores.items);
-  leads : matching.AreTelling (matching.store_states_of g.S.NodeStore.told g.S.NodeStore.needs_load l.fn.stores.items) → carrying.DeliversOn (in_code.so_far l.fn.world) (in_code.so_far l.world);
+  leads : matching.AreTelling (matching.store_states_of g.S.NodeStore.told g.S.NodeStore.needs_load l.fn.stores.items) → carrying.DeliversOn (in_code.so_far l.json (g.O.Sink.content l.fn.output) l.fn.world) (in_code.so_far l.json (g.O.Sink.content l.output) l.world);
+  count : g.O.Sink.faults l.output ≡ g.O.Sink.faults l.fn.output;
+  silent : l.json ≡ true → l.output ≡ l.fn.output;
 }
 
 abbrev pub decreases-packets : goal.decreases-packets

@@ -1,6 +1,6 @@
-use Rattle.std.proofs.Common.{rules, ◌≤◌, length, refl, ap, subst}
+use Rattle.std.proofs.Common.{rules, ◌≤◌, length, refl, subst}
+use Rattle.std.specs.Prelude.{Ok}
 use Rattle.ax_types.specs.declared.limits.TheConstants.{MAX_STEPS}
-use Rattle.script_run.specs.RunsInCode as in_code
 use Rattle.script_run.proofs.Carrying as lemmas
 use Rattle.script_run.proofs.lines.make.Goals as goal
 
@@ -9,10 +9,9 @@ returns-then-kept-ge-MAX_STEPS-clause-makes g c = λ tells. (refl, lemmas.full_a
 
 pub returns-clause-makes : goal.returns-clause-makes
 returns-clause-makes g c = λ tells.
-    let made = c.in_ok-step.ensures.made tells in (
-      record { outcome = made.outcome; may = made.may; same = ap in_code.so_far made.same },
-      lemmas.one_more (length c.args.world.now.kept) (length c.step.new.self.kept) c.in_ok-step.ensures.grows (search rules),
-    )
+    lemmas.told_step c.args.json c.args.world.now c.step.new.self (g.O.Sink.content c.args.output.now) (g.O.Sink.content c.tell.new.output) c.args.made.now c.items_from.result.now (Ok tt)
+    (c.in_ok-step.ensures.made tells) (search rules) c.in_ok-tell.ensures.tells
+    (lemmas.one_more (length c.args.world.now.kept) (length c.step.new.self.kept) c.in_ok-step.ensures.grows (search rules))
 
 pub returns-clause-ready : goal.returns-clause-ready
 returns-clause-ready g c = record {
@@ -23,3 +22,7 @@ returns-clause-ready g c = record {
   };
   telling = c.step.ensures.told;
 }
+
+pub returns-in_err-step-clause-makes : goal.returns-in_err-step-clause-makes
+returns-in_err-step-clause-makes g c = λ tells.
+    lemmas.not_made c.args.json c.args.world.now c.step.new.self (g.O.Sink.content c.args.output.now) c.args.made.now c.from_residual.result c.in_err-step.ensures.err c.from_residual.ensures.1

@@ -6,8 +6,6 @@ use Rattle.script_run.proofs.Carrying as lemmas
 use Rattle.script_run.proofs.lines.run_line.Goals as goal
 
 pub returns-in-Do-clause-carries : goal.returns-in-Do-clause-carries
-returns-in-Do-clause-carries g c = λ tells.
-    lemmas.if_ok c.make.result (λ went. carrying.Makes (in_code.so_far c.args.world.now) c.in-Do.step (in_code.so_far c.make.new.world) went) (in_code.CarriesOut (runs.jobs_of c.args.line.now) c.args.world.now c.make.new.world)
-    (λ went made line. subst (λ l. carrying.Carries line (runs.jobs_of l) (in_code.so_far c.args.world.now) (in_code.so_far c.make.new.world) went) (sym c.in-Do.is)
-    (lemmas.makes line (in_code.so_far c.args.world.now) (in_code.so_far c.make.new.world) c.in-Do.step went made))
-    (c.make.ensures.makes tells)
+returns-in-Do-clause-carries g c = λ tells line.
+    subst (λ l. carrying.Carries line (runs.jobs_of l) (in_code.so_far c.args.json (g.O.Sink.content c.args.output.now) c.args.world.now) (in_code.so_far c.args.json (g.O.Sink.content c.make.new.output) c.make.new.world) c.make.result) (sym c.in-Do.is)
+    (lemmas.makes line (in_code.so_far c.args.json (g.O.Sink.content c.args.output.now) c.args.world.now) (in_code.so_far c.args.json (g.O.Sink.content c.make.new.output) c.make.new.world) c.in-Do.step c.make.result (c.make.ensures.makes tells))

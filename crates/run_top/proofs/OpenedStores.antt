@@ -1,6 +1,6 @@
 -- Stores that were opened are those of a world before its first step.
-use Rattle.std.proofs.Common.{ℕ, zero, suc, ◌≤◌, List, [], ◌∷◌, map, sym, subst, arith}
-use Rattle.std.specs.Prelude.{Bool}
+use Rattle.std.proofs.Common.{ℕ, zero, suc, ◌≤◌, List, [], ◌∷◌, map, refl, sym, subst, arith}
+use Rattle.std.specs.Prelude.{Bool, Option, Some, None}
 use Rattle.ax_types.specs.Places as lists
 use Rattle.spec_world.specs.Worlds as worlds
 use Rattle.store_journal.specs.StoreTold as stores
@@ -59,3 +59,8 @@ still_telling told needs_load (b ∷ before) (x ∷ now) same t = (subst matchin
     later : (k : ℕ) → opened.TellSame told (lists.at_place before k) (lists.at_place now k)
     later zero = tt
     later (suc j) = same (suc (suc j))
+
+-- a store that was not called tells what it told
+pub tells_same : {S : Type 0} (told : S → stores.Told) (s : Option S) → opened.TellSame told s s
+tells_same told None = tt
+tells_same told (Some s) = refl
