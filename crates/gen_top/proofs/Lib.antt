@@ -1,1 +1,1 @@
-mod SeedLemmas
+pub mod SeedLemmas

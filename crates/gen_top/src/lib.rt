@@ -49,7 +49,7 @@ pub fn gen_top<O: Sink, S: NodeStore>(
     ensures quiet { outcomes.IfNoSummary result (output.new ≡ output.old) }
     ensures unopened { result ≡ Status.Usage → stores.new ≡ stores.old }
 {
-    let summarized = match summary(alloc, words, stores, filters) {
+    let summarized = match summary(alloc, words, stores, output, filters) {
         Ok(summarized) => summarized,
         Err(refused) => return refused.status(),
     };
