@@ -1,0 +1,2 @@
+pub mod UpgradeAsked
+pub mod UpgradeOutcomes
