@@ -6,9 +6,10 @@ use Rattle.ax_types.specs.declared.scripts.Script.{Script}
 use Rattle.spec_script.specs.Scripts as scripts
 use Rattle.spec_command.specs.CommandLine as command_lines
 
--- the words that the program takes today: the command `run`, with or without `--json`
+-- the commands that run a script which comes in: `run` and `run-in FOLDER`, with or without `--json`
 abbrev pub run_form : Option Command → Option Bool
 run_form (Some (command.Run json)) = Some json
+run_form (Some (command.RunIn folder json)) = Some json
 run_form _ = None
 
 -- whether the report is asked for as JSON, where a run is asked for

@@ -26,12 +26,13 @@ pub struct Request {
     pub json: bool,
 }
 
-/// Accepts the command `run`, and no other yet. Answers whether the report is asked for as JSON.
+/// Accepts the commands `run` and `run-in`, and no other. Answers whether the report is asked for as JSON.
 fn accept(alloc: Global, words: &[String]) -> Result<bool, WordsRefused>
     ensures { outcomes.TakesWords (answers.form_asked (map string_bytes words.now)) result }
 {
     match command_of(alloc, words)? {
         Command::Run { json } => Ok(json),
+        Command::RunIn { folder: _, json } => Ok(json),
         _ => Err(WordsRefused::Usage),
     }
 }
