@@ -1,1 +1,1 @@
-mod OpenedStores
+pub mod OpenedStores

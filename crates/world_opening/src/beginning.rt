@@ -16,5 +16,6 @@ pub fn open_world<S: NodeStore>(stores: &mut Vec<S>, nodes: u8) -> Result<(), Op
     ensures opened { OnOk result (opened.AreOpened S.told S.needs_load nodes stores.old.items stores.new.items) }
     ensures refused { IfErr result (opened.Refuses S.told S.needs_load S.faults nodes stores.old.items stores.new.items) }
 {
-    open_stores(stores, nodes)
+    open_stores(stores, nodes)?;
+    Ok(())
 }
