@@ -1,15 +1,18 @@
 -- A seed that the words give is within its limit.
-use Rattle.std.proofs.Common.{◌≡◌, ℕ, ◌<◌, ◌^◌, List, refl, subst, arith, codes}
+use Rattle.std.proofs.Common.{◌≡◌, ℕ, ◌<◌, ◌≤◌, ◌^◌, List, refl, sym, subst, arith, codes}
 use Rattle.std.proofs.lemmas.Bool.Decides.{nat_tests}
 use Rattle.std.specs.Prelude.{⊤, ◌&&◌, Bool, true, false, Option, Some, None, nat_le, option_map, option_and_then, if◌then◌else◌, is_none, bytes_eq}
 use Rattle.clap.specs.Faults.{fault_of}
 use Rattle.clap.specs.Simple.{matches_of}
 use Rattle.clap.specs.Walk.{Row, Text, first_of, is_empty}
-use Rattle.ax_types.specs.declared.limits.TheConstants.{MAX_SEED}
+use Rattle.ax_types.specs.declared.limits.TheConstants.{MAX_SEED, MAX_NODES, MAX_CLIENTS, MAX_TIMEOUT}
 use Rattle.ax_types.specs.declared.scripts.Command.{Command}
 use Rattle.ax_types.specs.declared.scripts.Command.TheVariants as command
+use Rattle.ax_types.specs.declared.scripts.Script.{Script}
 use Rattle.spec_text.specs.Words as text_words
 use Rattle.spec_command.specs.CommandLine as command_lines
+use Rattle.spec_gen.specs.Generator as generators
+use Rattle.law_script.specs.ScriptsWithin as script_limits
 
 abbrev pub SeedWithin : Option Command → Type 0
 SeedWithin (Some (command.Gen seed)) = seed < 2 ^ 31
@@ -67,3 +70,25 @@ of_words words =
 -- the seed of the command `gen` is less than 2^31
 pub seed_is_within : (words : List Text) (seed : ℕ) → command_lines.command_of_words words ≡ Some (command.Gen seed) → seed < 2 ^ 31
 seed_is_within words seed e = subst SeedWithin e (of_words words)
+
+-- the cluster of a seed's script is within the limits of any
+within_limits : (seed : ℕ) → script_limits.IsScriptWithin (generators.gen_script seed)
+within_limits seed = record { some = some; nodes = nodes; clients = clients; low = low; high = high }
+  where
+    some : 1 ≤ 3
+    some = grind (arith)
+
+    nodes : 3 ≤ MAX_NODES
+    nodes = grind (arith)
+
+    clients : 4 ≤ MAX_CLIENTS
+    clients = grind (arith)
+
+    low : 1 ≤ 1000000
+    low = grind (arith)
+
+    high : 1000000 ≤ MAX_TIMEOUT
+    high = grind (arith)
+
+pub script_is_within : (seed : ℕ) (s : Script) → s ≡ generators.gen_script seed → script_limits.IsScriptWithin s
+script_is_within seed s e = subst script_limits.IsScriptWithin (sym e) (within_limits seed)

@@ -21,11 +21,7 @@ pub fn open_file<R: Files>(files: &R, folder: &str, path: &str) -> io::Result<R:
 }
 
 /// The bytes of a file. One of more than 1 GiB is not read.
-pub fn file_bytes<R: Files>(
-    files: &R,
-    alloc: Global,
-    path: &str,
-) -> Result<List<u8>, ReadError> {
+pub fn file_bytes<R: Files>(files: &R, alloc: Global, path: &str) -> Result<List<u8>, ReadError> {
     let Ok(file) = fs::open(files, path) else {
         return Err(ReadError::Failed);
     };

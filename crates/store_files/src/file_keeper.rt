@@ -23,12 +23,7 @@ pub struct FileKeeper<R: Files + Drop> {
 
 impl<R: Files + Drop> FileKeeper<R> {
     /// The keeper of a node's file in a folder. No file is opened or made yet.
-    pub fn new(
-        files: R,
-        alloc: Global,
-        folder: &str,
-        node: u8,
-    ) -> Result<FileKeeper<R>, NoMemory> {
+    pub fn new(files: R, alloc: Global, folder: &str, node: u8) -> Result<FileKeeper<R>, NoMemory> {
         let path = format!(in alloc; "{folder}/node{node}.journal")?;
         let folder = String::from_str(alloc, folder)?;
         Ok(FileKeeper {

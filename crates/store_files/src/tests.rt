@@ -24,7 +24,10 @@ fn what_is_appended_is_read_by_the_next_keeper(rt: HostRuntime) -> Result<(), Fa
     let mut again = FileKeeper::new(rt, alloc, FOLDER, 1)?;
     again.append(b"!")?;
     assert_eq!(rt; again.bytes()?.as_slice(), b"one and!");
-    assert_eq!(rt; fs::read(&rt, "kept_by_the_test/node1.journal")?.as_slice(), b"one and!");
+    assert_eq!(rt;
+        fs::read(&rt, "kept_by_the_test/node1.journal")?.as_slice(),
+        b"one and!"
+    );
     assert!(rt; !fs::exists(&rt, "kept_by_the_test/node2.journal")?);
 
     fs::remove_dir_all(&rt, FOLDER)?;
