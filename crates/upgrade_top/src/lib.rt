@@ -39,6 +39,7 @@ fn refused_status(refused: UpgradeRefused) -> Status
 
 /// Brings the journals of the stores to the newest version, by the words `upgrade FOLDER`, and writes a line for each store,
 /// `store K version V entries N`, with the version that was found. No input is read. There are 9 stores, that of node 1 first.
+#[tactic(auto, using(crate::proofs::Findings::exact_text))]
 pub fn upgrade_top<O: Sink, S: NodeStore>(
     alloc: Global,
     words: &[String],
