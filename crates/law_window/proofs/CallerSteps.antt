@@ -224,7 +224,7 @@ module _ (places crew id : ℕ) where
             (ap lives.is_done life) (ap lives.is_born life) refl (sym (ap lives.pump_shown life)) (got_notes places c n call o idle) refl refl
             (record { from_free = omega arith; not_freed = omega arith; rises = omega arith; within = omega arith; freed = λ up. absurd (omega arith); lies = (hit, set_here s.homes x none (omega arith)) })
             (λ y ne. set_else s.homes x y none ne),
-        subst (λ (b : Bool). MatchBool b ((call' : WindowCall) × (o' : Outcome) × (after ≡ (known.known_to_caller (plays.got places c n call' o'), (x, Some (parcel.Outcome o')) ∷ []))) (after ≡ (known.known_to_caller (plays.saw_state places c n found), []))) (sym (eq-eqb found (window_words.answered n) hit)) (call, o, refl),
+        subst (λ (b : Bool). MatchBool b ((call' : WindowCall) × (o' : Outcome) × (after ≡ (known.known_to_caller (plays.got places c n call' o'), (x, Some (parcel.Outcome o')) ∷ [])) × (lives.note_in c.seat.mine n ≡ Some (lives.Called call'))) (after ≡ (known.known_to_caller (plays.saw_state places c n found), []))) (sym (eq-eqb found (window_words.answered n) hit)) (call, o, refl, called),
       ))
       (λ miss.
       let c' : known.CallerKnown = plays.saw_state places c n found in
@@ -233,7 +233,7 @@ module _ (places crew id : ℕ) where
         keeps,
         tt,
         caller_sees s w id c c' at refl (λ k. refl) (seen_below s w c at) (floor_below s w c at) (x + 2),
-        subst (λ (b : Bool). MatchBool b ((call' : WindowCall) × (o' : Outcome) × (after ≡ (known.known_to_caller (plays.got places c n call' o'), (x, Some (parcel.Outcome o')) ∷ []))) (after ≡ (known.known_to_caller (plays.saw_state places c n found), []))) (sym (ne_eqb found (window_words.answered n) miss)) refl,
+        subst (λ (b : Bool). MatchBool b ((call' : WindowCall) × (o' : Outcome) × (after ≡ (known.known_to_caller (plays.got places c n call' o'), (x, Some (parcel.Outcome o')) ∷ [])) × (lives.note_in c.seat.mine n ≡ Some (lives.Called call'))) (after ≡ (known.known_to_caller (plays.saw_state places c n found), []))) (sym (ne_eqb found (window_words.answered n) miss)) refl,
       ))))
 
   pub frees : (m : plays.Knows) (c : known.CallerKnown) (n : ℕ) (call : WindowCall) (o : Outcome) (v : ℕ) → m ≡ (known.known_to_caller c, (n % places, None) ∷ []) → c.task ≡ known.Got n call o

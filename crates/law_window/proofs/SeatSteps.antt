@@ -24,6 +24,10 @@ each_of_both : {X : Type 0} (P : X → Type 0) (xs ys : List X) → AllByRecursi
 each_of_both P [] ys h g = g
 each_of_both P (x ∷ xs) ys h g = (h.0, each_of_both P xs ys h.1 g)
 
+each_joined : (P : known.CallerKnown → Type 0) (xs ys : List known.CallerKnown) → AllByRecursion P xs → AllByRecursion P ys → AllByRecursion P (known.callers_joined xs ys)
+each_joined P [] ys h g = g
+each_joined P (x ∷ xs) ys h g = (h.0, each_of_both P ys xs g h.1)
+
 at_end : {A : Type 0} (l : List A) (a b : A) (j : ℕ) → get_elem? (l ++ a ∷ []) j ≡ some b → (get_elem? l j ≡ some b) ⊎ ((j ≡ length l) × (a ≡ b))
 at_end [] a b zero e = inr (refl, some-injective a b e)
 at_end [] a b (suc j) e = absurd (some-ne-none b (sym e))
@@ -188,8 +192,8 @@ module _ (places crew : ℕ) where
           held = λ j x here. ⊎_elim
               (λ spent. subst (λ (y : known.WindowKnown). AllByRecursion (rule.IsHeld crew holder' w.callers j) y.callers) spent.1 tt)
               (λ rest. ⊎_elim
-              (λ mine. subst (λ (y : known.WindowKnown). AllByRecursion (rule.IsHeld crew holder' w.callers j) y.callers) mine.1 (subst (λ (i : ℕ). AllByRecursion (rule.IsHeld crew holder' w.callers i) (v.callers ++ u.callers)) (sym mine.0)
-              (each_of_both (rule.IsHeld crew holder' w.callers id) v.callers u.callers
+              (λ mine. subst (λ (y : known.WindowKnown). AllByRecursion (rule.IsHeld crew holder' w.callers j) y.callers) mine.1 (subst (λ (i : ℕ). AllByRecursion (rule.IsHeld crew holder' w.callers i) (known.callers_joined v.callers u.callers)) (sym mine.0)
+              (each_joined (rule.IsHeld crew holder' w.callers id) v.callers u.callers
               (each_since (rule.IsHeld crew w.holder w.callers id) (rule.IsHeld crew holder' w.callers id) (λ d h. stays id d apart h) v.callers (w.tied.held id v at))
               (each_since (rule.IsHeld crew w.holder w.callers other) (rule.IsHeld crew holder' w.callers id) comes u.callers (w.tied.held other u there)))))
               (λ old. each_since (rule.IsHeld crew w.holder w.callers j) (rule.IsHeld crew holder' w.callers j) (λ d h. stays j d rest.0 h) x.callers (w.tied.held j x old.1))

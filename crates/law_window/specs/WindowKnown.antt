@@ -91,8 +91,13 @@ abbrev pub either_pump : Option PumpKnown → Option PumpKnown → Option PumpKn
 either_pump None q = q
 either_pump (Some p) q = Some p
 
+-- the first caller stays in front, and the others come behind it
+abbrev pub callers_joined : List CallerKnown → List CallerKnown → List CallerKnown
+callers_joined [] more = more
+callers_joined (c ∷ cs) more = c ∷ (more ++ cs)
+
 abbrev pub joined : WindowKnown → WindowKnown → WindowKnown
-joined v w = record v { callers = v.callers ++ w.callers; pump = either_pump v.pump w.pump }
+joined v w = record v { callers = callers_joined v.callers w.callers; pump = either_pump v.pump w.pump }
 
 -- the first caller, with what the joined seat found behind its own looks
 abbrev pub handed_back : WindowKnown → WindowKnown

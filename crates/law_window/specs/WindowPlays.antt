@@ -11,6 +11,7 @@ use Rattle.spec_window.specs.WindowCalls as window_calls
 use Rattle.law_window.specs.declared.parcel.Parcel.{Parcel}
 use Rattle.law_window.specs.declared.parcel.Parcel.TheVariants as parcel
 use Rattle.law_window.specs.WindowKnown as known
+use Rattle.law_window.specs.WindowLives as lives
 use Rattle.law_window.specs.WindowRule as rule
 
 abbrev pub Place : Type 0
@@ -92,7 +93,7 @@ Publishes s m _ m' = (n : ℕ) (call : WindowCall) → (known.caller_of m.0).tas
 -- the number has its outcome, in the slot of its place; or not yet
 abbrev pub SeesOutcome : ℕ → Step Place → Knows → ℕ → Knows → Type 0
 SeesOutcome n s m found m' = MatchBool (nat_eq found (window_words.answered n))
-    ((call : WindowCall) × (o : Outcome) × (m' ≡ (known.known_to_caller (got s.slots (known.caller_of m.0) n call o), (window_words.place_of s.slots n, Some (parcel.Outcome o)) ∷ m.1)))
+    ((call : WindowCall) × (o : Outcome) × (m' ≡ (known.known_to_caller (got s.slots (known.caller_of m.0) n call o), (window_words.place_of s.slots n, Some (parcel.Outcome o)) ∷ m.1)) × (lives.note_in (known.caller_of m.0).seat.mine n ≡ Some (lives.Called call)))
     (m' ≡ (known.known_to_caller (saw_state s.slots (known.caller_of m.0) n found), m.1))
 
 -- the place is free for its next number
