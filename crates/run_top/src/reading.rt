@@ -1,4 +1,4 @@
-ghost use Rattle.std.specs.Prelude.{◌≡◌, ◌≤◌, Ok as IsGood, Some as IsSome, map, length, string_bytes, IsErrOf, IfErr, IfOk, IfSome};
+ghost use Rattle.std.specs.Prelude.{◌≡◌, ◌≤◌, Ok as IsGood, Some as AskedFor, map, length, string_bytes, IsErrOf, IfErr, IfOk, IfSome};
 ghost use Rattle.ax_types.specs.declared.limits.TheConstants.{MAX_NODES};
 ghost use Rattle.ax_io.specs.Count as counts;
 ghost use Rattle.law_script.specs.ScriptsWithin as script_limits;
@@ -66,7 +66,7 @@ pub fn read_request<I: Source, S: NodeStore>(
     ensures refused { IfErr result (λ e. IfSome (I.content input.old) (λ content. outcomes.RefusesScript S.told S.needs_load S.faults stores.old.items stores.new.items (answers.judged (outcomes.input_bytes content)) e)) }
     ensures unopened { IfErr result (λ e. outcomes.LeavesStores e (stores.new ≡ stores.old)) }
     ensures told { outcomes.TellAlike S.told stores.old.items stores.new.items }
-    ensures form { IfOk result (λ r. answers.form_asked (map string_bytes words.now) ≡ IsSome r.json) }
+    ensures form { IfOk result (λ r. answers.form_asked (map string_bytes words.now) ≡ AskedFor r.json) }
     ensures read { IfOk result (λ r. IfSome (I.content input.old) (λ content. answers.judged (outcomes.input_bytes content) ≡ IsGood r.script)) }
     ensures within { IfOk result (λ r. script_limits.IsScriptWithin r.script) }
     ensures opened { IfOk result (λ r. matching.StoresMatch (script_runs.world_of_script r.script).hosts (matching.store_states_of S.told S.needs_load stores.new.items)) }
