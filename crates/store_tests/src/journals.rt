@@ -7,8 +7,8 @@ use store_journal::{JournalStore, Keeper, MemKeeper, NodeStore};
 
 /// No entries; term 1 with a vote for node 1; and the blank entry of term 1 at place 1.
 const NEW: [u8; 45] = [
-    0x14, 0, 0, 0, 0, 0, 0, 0, 0, 0x11, 0, 0, 0, 0, 0, 0, 0, 1, 1, 0x15, 0, 0, 0, 0, 0, 0, 0, 1, 0, 0,
-    0, 0, 0, 0, 0, 1, 0, 0, 0, 0, 0, 0, 0, 0, 0,
+    0x14, 0, 0, 0, 0, 0, 0, 0, 0, 0x11, 0, 0, 0, 0, 0, 0, 0, 1, 1, 0x15, 0, 0, 0, 0, 0, 0, 0, 1, 0,
+    0, 0, 0, 0, 0, 0, 1, 0, 0, 0, 0, 0, 0, 0, 0, 0,
 ];
 
 /// The same of version 1.

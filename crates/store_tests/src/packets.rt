@@ -65,11 +65,23 @@ fn fronts_are_no_packets(rt: HostRuntime) -> Result<(), Fail> {
         let mut bytes = bytes_of(alloc, digits)?;
         let whole = bytes.len();
         for count in 0..whole {
-            assert_eq!(rt; length_of(alloc, &bytes.as_slice()[..count])?, None, "{count} of {digits}");
+            assert_eq!(rt;
+                length_of(alloc, &bytes.as_slice()[..count])?,
+                None,
+                "{count} of {digits}"
+            );
         }
-        assert_eq!(rt; length_of(alloc, bytes.as_slice())?, Some(whole), "{digits}");
+        assert_eq!(rt;
+            length_of(alloc, bytes.as_slice())?,
+            Some(whole),
+            "{digits}"
+        );
         bytes.push(0)?;
-        assert_eq!(rt; length_of(alloc, bytes.as_slice())?, Some(whole), "{digits} and more");
+        assert_eq!(rt;
+            length_of(alloc, bytes.as_slice())?,
+            Some(whole),
+            "{digits} and more"
+        );
     }
     Ok(())
 }
@@ -104,18 +116,41 @@ fn wrong_bytes_are_no_packets(rt: HostRuntime) -> Result<(), Fail> {
 #[test]
 fn numbers_stand_with_the_highest_byte_first(rt: HostRuntime) -> Result<(), Fail> {
     let alloc = rt.alloc();
-    let vote = write(alloc, &Payload::Vote { term: 1 << 40, last: 515, last_term: u64::MAX })?;
+    let vote = write(
+        alloc,
+        &Payload::Vote {
+            term: 1 << 40,
+            last: 515,
+            last_term: u64::MAX,
+        },
+    )?;
     let mut expected = [1; 25];
     BigEndian::write_u64(&mut expected[1..9], 1 << 40);
     BigEndian::write_u64(&mut expected[9..17], 515);
     BigEndian::write_u64(&mut expected[17..25], u64::MAX);
     assert_eq!(rt; vote.as_slice(), expected.as_slice());
-    let ended = write(alloc, &Payload::Ended { session: 2, place: 4, how: How::Expired })?;
+    let ended = write(
+        alloc,
+        &Payload::Ended {
+            session: 2,
+            place: 4,
+            how: How::Expired,
+        },
+    )?;
     assert_eq!(rt; ended.as_slice(), bytes_of(alloc, PACKETS[16])?.as_slice());
     let client = ClientId::new(1).ok_or("no client")?;
     let name = Name::read(alloc, b"c")?.ok_or("no name")?;
     let op = Op::Long(LongOp::Add { delta: 5 });
-    let command = write(alloc, &Payload::Command { client, session: 2, seq: 1, name, op })?;
+    let command = write(
+        alloc,
+        &Payload::Command {
+            client,
+            session: 2,
+            seq: 1,
+            name,
+            op,
+        },
+    )?;
     assert_eq!(rt; command.as_slice(), bytes_of(alloc, PACKETS[6])?.as_slice());
     Ok(())
 }
