@@ -1,1 +1,2 @@
 pub mod RaceRows
+pub mod ToldRows

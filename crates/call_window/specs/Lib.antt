@@ -1,0 +1,5 @@
+pub mod WindowRefused
+pub mod WindowPolls
+pub mod WindowPumping
+pub mod WindowOpening
+pub mod WindowClosing

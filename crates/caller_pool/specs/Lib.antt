@@ -1,0 +1,4 @@
+pub mod CallersCalls
+pub mod CallerLoop
+pub mod CallerReports
+pub mod CountedCallers

@@ -1,0 +1,3 @@
+pub mod RaceCallers
+pub mod RaceFeeds
+pub mod RaceAnswers

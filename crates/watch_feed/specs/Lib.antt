@@ -1,0 +1,4 @@
+pub mod FeedEnds
+pub mod HeardItems
+pub mod FeedReports
+pub mod CountedFeeds
