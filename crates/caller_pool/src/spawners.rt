@@ -1,7 +1,7 @@
 //! What starts the callers of a window, each in a thread of its own.
-ghost use Rattle.std.specs.Prelude.{◌≡◌, ℕ, ◌≤◌, Option as Maybe, Some, None, List as Items, [], ◌∷◌, ◌++◌, IfOk, OnOk, IsErr};
+ghost use Rattle.std.specs.Prelude.{◌≡◌, ℕ, ◌≤◌, Option as Maybe, Some, None, List as Items, [], ◌∷◌, ◌++◌, IfOk, OnOk, IsErr, IsOk, ◌↔◌};
 ghost use Rattle.ax_io.specs.Count as counts;
-ghost use Rattle.caller_pool.specs.CallerReports.{Calling, ToldBy, HasCalled, Adds};
+ghost use Rattle.caller_pool.specs.CallerReports.{ToldBy, HasCalled, Adds};
 
 use crate::jobs::CallerJob;
 use crate::running::CallerReport;
@@ -14,42 +14,65 @@ use std::marker::Model;
 use std::sync::Wait;
 use std::thread::Threads;
 
-/// What starts callers and joins them.
+/// What starts callers, each in a thread of its own, and joins them. It may refuse a start, and may tell what the joined ones
+/// were told.
 pub trait Spawner<G: Gate + 'static> {
-    /// A caller that was started and is to be joined.
-    type Task: Drop;
-
-    /// The callers that could not be started so far, as a count that never falls and stands still at 2^64 - 1.
+    /// The callers that were not started so far, as a count that never falls and stands still at 2^64 - 1.
     ghost faults: { Self → ℕ };
 
     /// The number of each joined caller and what it was told, in the order of the joins, where that is told.
     ghost joined: { Self → Maybe (Items ToldBy) };
 
-    /// The job of a caller.
-    ghost job_of: { Self.Task → Calling };
+    /// Lets the next caller be started, or refuses it.
+    fn admit(&mut self) -> Result<(), Failed>
+        ensures counted { counts.Counted (faults self.old) (faults self.new) result }
+        ensures joined { joined self.new ≡ joined self.old };
+
+    /// Counts a caller for which there was no thread.
+    fn refuse(&mut self) -> Failed
+        ensures counted { counts.Rose (faults self.old) (faults self.new) }
+        ensures never_falls { faults self.old ≤ faults self.new }
+        ensures joined { joined self.new ≡ joined self.old };
+
+    /// Takes note of what a joined caller was told.
+    fn note(&mut self, report: &CallerReport)
+        ensures counted { faults self.new ≡ faults self.old }
+        ensures joined { Adds (joined self.old) (joined self.new) report.now };
 
     /// Starts a caller. After a failure the job is dropped.
-    fn spawn<R: Threads + Wait + Copy + Send + Sync + 'static>(
+    final fn spawn<R: Threads + Wait + Copy + Send + Sync + 'static>(
         &mut self,
         rt: &R,
         job: CallerJob<G>,
-    ) -> Result<Self::Task, Failed>
+    ) -> Result<CallerTask, Failed>
         ensures counted { counts.Counted (faults self.old) (faults self.new) result }
-        ensures task { IfOk result (λ t. job_of t ≡ record { caller = job.caller; seat = job.seat; calls = job.calls }) }
-        ensures joined { joined self.new ≡ joined self.old };
+        ensures task { IfOk result (λ t. t ≡ record { caller = job.caller; seat = job.seat; calls = job.calls }) }
+        ensures joined { joined self.new ≡ joined self.old }
+    {
+        self.admit()?;
+        match start_caller(rt, job) {
+            Some(task) => Ok(task),
+            None => Err(self.refuse()),
+        }
+    }
 
     /// Waits until a caller has ended, and gives its report.
-    fn join<R: Threads + Wait + Copy + Send + Sync + 'static>(
+    final fn join<R: Threads + Wait + Copy + Send + Sync + 'static>(
         &mut self,
         rt: &R,
-        task: Self::Task,
+        task: CallerTask,
     ) -> CallerReport
-        ensures counted { faults self.old ≤ faults self.new }
-        ensures report { HasCalled (job_of task) result }
-        ensures joined { Adds (joined self.old) (joined self.new) result };
+        ensures counted { faults self.new ≡ faults self.old }
+        ensures report { HasCalled task result }
+        ensures joined { Adds (joined self.old) (joined self.new) result }
+    {
+        let report = task.join(rt);
+        self.note(&report);
+        report
+    }
 }
 
-/// Starts real threads, and tells nothing of what the callers were told.
+/// Refuses no caller, and tells nothing of what they were told.
 #[derive(Drop)]
 pub struct ThreadSpawner {
     faults: Faults,
@@ -67,41 +90,31 @@ impl ThreadSpawner {
 }
 
 impl<G: Gate + 'static> Spawner<G> for ThreadSpawner {
-    type Task = CallerTask;
-
     ghost faults = { λ s. s.faults };
 
     ghost joined = { λ _. None };
 
-    ghost job_of = { λ t. t };
-
-    fn spawn<R: Threads + Wait + Copy + Send + Sync + 'static>(
-        &mut self,
-        rt: &R,
-        job: CallerJob<G>,
-    ) -> Result<CallerTask, Failed>
+    fn admit(&mut self) -> Result<(), Failed>
         ensures counted { counts.Counted self.old.faults self.new.faults result }
-        ensures task { IfOk result (λ t. t ≡ record { caller = job.caller; seat = job.seat; calls = job.calls }) }
+        ensures ok { IsOk result }
     {
-        match start_caller(rt, job) {
-            Some(task) => Ok(task),
-            None => Err(self.faults.raise()),
-        }
+        Ok(())
     }
 
-    fn join<R: Threads + Wait + Copy + Send + Sync + 'static>(
-        &mut self,
-        rt: &R,
-        task: CallerTask,
-    ) -> CallerReport
-        ensures counted { self.old.faults ≤ self.new.faults }
-        ensures report { HasCalled task result }
+    fn refuse(&mut self) -> Failed
+        ensures counted { counts.Rose self.old.faults self.new.faults }
+        ensures never_falls { self.old.faults ≤ self.new.faults }
     {
-        task.join(rt)
+        self.faults.raise()
+    }
+
+    fn note(&mut self, _report: &CallerReport)
+        ensures { self.new.faults ≡ self.old.faults }
+    {
     }
 }
 
-/// Starts real threads but refuses one call, and tells what the callers were told while there is memory for copies.
+/// Refuses one caller, and tells what the others were told while there is memory for copies.
 #[derive(Drop)]
 pub struct CountedSpawner {
     alloc: Global,
@@ -127,7 +140,7 @@ impl Model for CountedSpawner {
 }
 
 impl CountedSpawner {
-    /// A spawner that refuses its call of this number, counted from 1; 0 for none.
+    /// A spawner that refuses its caller of this number, counted from 1; 0 for none.
     pub fn new(alloc: Global, refuse_at: u64) -> CountedSpawner
         ensures { result ≡ record { refuse_at = refuse_at; calls = 0; faults = 0; joined = Some [] } }
     {
@@ -166,49 +179,40 @@ fn keep(
 }
 
 impl<G: Gate + 'static> Spawner<G> for CountedSpawner {
-    type Task = CallerTask;
-
     ghost faults = { λ s. s.faults };
 
     ghost joined = { λ s. s.joined };
 
-    ghost job_of = { λ t. t };
-
-    fn spawn<R: Threads + Wait + Copy + Send + Sync + 'static>(
-        &mut self,
-        rt: &R,
-        job: CallerJob<G>,
-    ) -> Result<CallerTask, Failed>
+    fn admit(&mut self) -> Result<(), Failed>
         ensures counted { counts.Counted self.old.faults self.new.faults result }
-        ensures task { IfOk result (λ t. t ≡ record { caller = job.caller; seat = job.seat; calls = job.calls }) }
         ensures joined { self.new.joined ≡ self.old.joined }
 
-        ensures refused { counts.one_more self.old.calls ≡ self.old.refuse_at → IsErr result }
+        ensures refused { IsErr result ↔ (counts.one_more self.old.calls ≡ self.old.refuse_at) }
         ensures calls { (self.new.calls ≡ counts.one_more self.old.calls) × (self.new.refuse_at ≡ self.old.refuse_at) }
     {
         self.calls = self.calls.saturating_add(1);
         if self.calls == self.refuse_at {
             return Err(self.faults.raise());
         }
-        match start_caller(rt, job) {
-            Some(task) => Ok(task),
-            None => Err(self.faults.raise()),
-        }
+        Ok(())
     }
 
-    fn join<R: Threads + Wait + Copy + Send + Sync + 'static>(
-        &mut self,
-        rt: &R,
-        task: CallerTask,
-    ) -> CallerReport
-        ensures counted { self.old.faults ≤ self.new.faults }
-        ensures report { HasCalled task result }
-        ensures joined { Adds self.old.joined self.new.joined result }
+    fn refuse(&mut self) -> Failed
+        ensures counted { counts.Rose self.old.faults self.new.faults }
+        ensures never_falls { self.old.faults ≤ self.new.faults }
+        ensures joined { self.new.joined ≡ self.old.joined }
 
         ensures calls { (self.new.calls ≡ self.old.calls) × (self.new.refuse_at ≡ self.old.refuse_at) }
     {
-        let report = task.join(rt);
-        self.tells = self.tells && keep(self.alloc, &mut self.joined, &report).is_ok();
-        report
+        self.faults.raise()
+    }
+
+    fn note(&mut self, report: &CallerReport)
+        ensures counted { self.new.faults ≡ self.old.faults }
+        ensures joined { Adds self.old.joined self.new.joined report.now }
+
+        ensures calls { (self.new.calls ≡ self.old.calls) × (self.new.refuse_at ≡ self.old.refuse_at) }
+    {
+        self.tells = self.tells && keep(self.alloc, &mut self.joined, report).is_ok();
     }
 }

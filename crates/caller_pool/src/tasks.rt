@@ -66,7 +66,14 @@ pub fn start_caller<R: Threads + Wait + Copy + Send + Sync + 'static, G: Gate + 
         calls: Snapshot::of(&job.calls),
     };
     let rt = *rt;
-    match thread::spawn_with(&rt, promise, move || run_caller(&rt, job)) {
+    let started = thread::spawn_with(
+        &rt,
+        promise,
+        move || -> CallerReport
+            ensures { HasCalled (record { caller = job.caller; seat = job.seat; calls = job.calls }) result }
+        { run_caller(&rt, job) },
+    );
+    match started {
         Ok(handle) => Some(CallerTask { handle }),
         Err(_) => None,
     }

@@ -57,7 +57,7 @@ fn a_listener_hears_the_grants(rt: HostRuntime) -> Result<(), Fail> {
     );
     let (mut input, out) = open_feed(alloc)?;
     let gate = Arc::new(alloc, FreeGate)?;
-    let job = ListenerJob::new(out, filters, WatchKind::Grants, 1, gate);
+    let job = ListenerJob::new(alloc, out, filters, WatchKind::Grants, 1, gate);
     let mut spawner = CountedFeedSpawner::new(alloc, 0);
     let task = spawner.spawn(&rt, job)?;
     put_all(&rt, alloc, &mut input)?;
@@ -88,7 +88,7 @@ fn a_refused_listener_is_dropped(rt: HostRuntime) -> Result<(), Fail> {
     );
     let (_input, out) = open_feed(alloc)?;
     let gate = Arc::new(alloc, FreeGate)?;
-    let job = ListenerJob::new(out, filters, WatchKind::All, 1, gate);
+    let job = ListenerJob::new(alloc, out, filters, WatchKind::All, 1, gate);
     let mut spawner = CountedFeedSpawner::new(alloc, 1);
     assert!(rt; spawner.spawn(&rt, job).is_err());
     Ok(())

@@ -5,11 +5,12 @@ ghost use Rattle.watch_feed.specs.FeedEnds.{received};
 use crate::ends::FeedOut;
 use ax_types::WatchKind;
 use race_gate::Gate;
+use std::alloc::Global;
 use std::sync::Arc;
 use watch_hooks::Filters;
 
 /// The job of a listener: its end of a feed of which nothing was taken, the filters, the kind of its watch, the number of
-/// the feed, and the gate.
+/// the feed, the gate, and where it takes memory.
 #[derive(Drop)]
 pub struct ListenerJob<G: Gate> {
     pub(crate) out: FeedOut,
@@ -17,12 +18,14 @@ pub struct ListenerJob<G: Gate> {
     pub(crate) kind: WatchKind,
     pub(crate) feed: u8,
     pub(crate) gate: Arc<G>,
+    pub(crate) alloc: Global,
     ghost fresh: { received out ≡ [] },
 }
 
 impl<G: Gate> ListenerJob<G> {
     /// The job of the listener of this feed, numbered from 1.
     pub fn new(
+        alloc: Global,
         out: FeedOut,
         filters: Filters,
         kind: WatchKind,
@@ -38,6 +41,7 @@ impl<G: Gate> ListenerJob<G> {
             kind,
             feed,
             gate,
+            alloc,
         }
     }
 }

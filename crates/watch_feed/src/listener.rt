@@ -10,7 +10,6 @@ use crate::jobs::ListenerJob;
 use ax_types::limits::MAX_CALLERS;
 use ax_types::{Event, List, WatchKind};
 use race_gate::Gate;
-use std::alloc::Global;
 use std::sync::Wait;
 use watch_hooks::Filters;
 
@@ -48,11 +47,7 @@ fn hear(
 
 /// Listens to a feed until its last item, and waits for each. It passes the gate before each item, as the caller whose
 /// number is that of the feed above the number of callers.
-pub fn run_listener<R: Wait, G: Gate>(
-    rt: &R,
-    alloc: Global,
-    job: ListenerJob<G>,
-) -> ListenerReport
+pub fn run_listener<R: Wait, G: Gate>(rt: &R, job: ListenerJob<G>) -> ListenerReport
     ensures { HasListened (record { out = job.out; kind = job.kind }) result }
 {
     let ListenerJob {
@@ -61,6 +56,7 @@ pub fn run_listener<R: Wait, G: Gate>(
         kind,
         feed,
         gate,
+        alloc,
     } = job;
     let caller = (MAX_CALLERS as u8).saturating_add(feed);
     let mut heard = List::new(alloc);

@@ -7,7 +7,6 @@ use crate::jobs::ListenerJob;
 use crate::listener::{ListenerReport, run_listener};
 use ax_types::WatchKind;
 use race_gate::Gate;
-use std::alloc::Global;
 use std::marker::Model;
 use std::snapshot::Snapshot;
 use std::sync::Wait;
@@ -52,7 +51,6 @@ impl ListenerTask {
 /// Starts a listener, where there is a thread for it. Else the job is dropped.
 pub fn start_listener<R: Threads + Wait + Copy + Send + Sync + 'static, G: Gate + 'static>(
     rt: &R,
-    alloc: Global,
     job: ListenerJob<G>,
 ) -> Option<ListenerTask>
     ensures { IfSome result (λ t. t ≡ record { out = job.out; kind = job.kind }) }
@@ -62,7 +60,14 @@ pub fn start_listener<R: Threads + Wait + Copy + Send + Sync + 'static, G: Gate 
         kind: job.kind,
     };
     let rt = *rt;
-    match thread::spawn_with(&rt, promise, move || run_listener(&rt, alloc, job)) {
+    let started = thread::spawn_with(
+        &rt,
+        promise,
+        move || -> ListenerReport
+            ensures { HasListened (record { out = job.out; kind = job.kind }) result }
+        { run_listener(&rt, job) },
+    );
+    match started {
         Ok(handle) => Some(ListenerTask { handle }),
         Err(_) => None,
     }
