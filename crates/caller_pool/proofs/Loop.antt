@@ -39,21 +39,21 @@ pub polled : (window : TableId) (places : ℕ) (c d : Caller) (n : ℕ) (ns : Li
     → vec_capacity d.told ≡ vec_capacity c.told → (IsTrue d.is_over → IsTrue c.is_over ⊎ agreement.IsLast o) → (IsTrue c.is_over → IsTrue d.is_over)
     → caller_loop.IsWell window d × caller_loop.Stays c d
 polled window places c d n ns o w is p same left told cap why still = (
-      record {
-        window = same ∙ w.window;
-        way = subst (λ (t : List (ℕ × Outcome)). callers_calls.IsUnderWay d.seat.seat d.waiting.items t d.is_over) (sym told)
-            (subst (λ (l : List ℕ). callers_calls.IsUnderWay d.seat.seat l (c.told.items ++ (n, o) ∷ []) d.is_over) (sym left)
-                (under_way.polled places c.seat.seat d.seat.seat c.waiting.items c.told.items c.is_over d.is_over n ns o w.way is p why));
-        room = (let e = same_count c.seat.seat d.seat.seat calls in let r : length c.seat.seat.mine ≤ vec_capacity c.told = w.room in omega (arith, cap));
-      },
-      record {
-        caller = ap (λ (s : views.SeatView). s.caller) p.seat;
-        calls = calls;
-        capacity = cap;
-        fewer = (let a : length c.waiting.items ≡ length ns + 1 = ap length is in let b : length d.waiting.items ≡ length ns = ap length left in omega arith);
-        over = still;
-      },
-    )
+  record {
+    window = same ∙ w.window;
+    way = subst (λ (t : List (ℕ × Outcome)). callers_calls.IsUnderWay d.seat.seat d.waiting.items t d.is_over) (sym told)
+        (subst (λ (l : List ℕ). callers_calls.IsUnderWay d.seat.seat l (c.told.items ++ (n, o) ∷ []) d.is_over) (sym left)
+        (under_way.polled places c.seat.seat d.seat.seat c.waiting.items c.told.items c.is_over d.is_over n ns o w.way is p why));
+    room = (let e = same_count c.seat.seat d.seat.seat calls in let r : length c.seat.seat.mine ≤ vec_capacity c.told = w.room in omega (arith, cap));
+  },
+  record {
+    caller = ap (λ (s : views.SeatView). s.caller) p.seat;
+    calls = calls;
+    capacity = cap;
+    fewer = (let a : length c.waiting.items ≡ length ns + 1 = ap length is in let b : length d.waiting.items ≡ length ns = ap length left in omega arith);
+    over = still;
+  },
+)
   where
     calls : callers_calls.drawn_calls d.seat.seat ≡ callers_calls.drawn_calls c.seat.seat
     calls = under_way.polled_calls places c.seat.seat d.seat.seat n o p
@@ -70,8 +70,8 @@ both c d e s t = record {
 
 pub first_draws : (c d e : Caller) (call : WindowCall) → caller_loop.Stays c d → caller_loop.Submits d e call → caller_loop.Submits c e call
 first_draws c d e call s (inl t) = inl (record {
-      caller = t.caller ∙ s.caller;
-      calls = t.calls ∙ ap (λ (l : List WindowCall). l ++ call ∷ []) s.calls;
-      capacity = t.capacity ∙ s.capacity;
-    })
+  caller = t.caller ∙ s.caller;
+  calls = t.calls ∙ ap (λ (l : List WindowCall). l ++ call ∷ []) s.calls;
+  capacity = t.capacity ∙ s.capacity;
+})
 first_draws c d e call s (inr t) = inr (both c d e s t.0, t.1)

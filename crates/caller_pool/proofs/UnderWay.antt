@@ -106,7 +106,7 @@ still_over : (old new : views.SeatView) (more : List window_words.Look) (told : 
 still_over old new more told e (inl last) = inl last
 still_over old new more told e (inr spent) =
     inr (subst (λ (ls : List window_words.Look). Contains ls (window_calls.look window_words.Next window_words.last_number)) (sym e)
-        (Contains-append_left old.looks more (window_calls.look window_words.Next window_words.last_number) spent))
+    (Contains-append_left old.looks more (window_calls.look window_words.Next window_words.last_number) spent))
 
 last_more : (told : List (ℕ × Outcome)) (t : ℕ × Outcome) → callers_calls.HasLast told → callers_calls.HasLast (told ++ t ∷ [])
 last_more told t h =
@@ -186,7 +186,7 @@ polled places old new waiting told over over' n ns o u is p why = record {
   mine_is = ap (λ (s : views.SeatView). s.mine) p.seat ∙ (step ∙ sym (append_assoc u.done (with_told t.d o ∷ []) t.rest));
   told_are = map-append agreement.told_outcome u.done (with_told t.d o ∷ [])
       ∙ (ap₂ (λ (a b : List (Option views.GivenOutcome)). a ++ b) u.told_are one
-          ∙ (sym (map-append Some (callers_calls.all_given told) (callers_calls.given_of (n, o) ∷ [])) ∙ sym (ap (λ (gs : List views.GivenOutcome). map Some gs) (more_told told (n, o)))));
+      ∙ (sym (map-append Some (callers_calls.all_given told) (callers_calls.given_of (n, o) ∷ [])) ∙ sym (ap (λ (gs : List views.GivenOutcome). map Some gs) (more_told told (n, o)))));
   without = none.1;
   waiting_are = t.numbers;
   rising = subst (λ (s : views.SeatView). seats.AreRising s.mine s.seen) (sym p.seat) (subst (λ (l : List views.Drawn). seats.AreRising l old.seen) (sym step) (rising_told u.done t.d t.rest old.seen o rising));
@@ -195,18 +195,25 @@ polled places old new waiting told over over' n ns o u is p why = record {
   where
     t : Oldest old u.done u.left n ns
     t = oldest old waiting told over n ns u is
+
     m : old.mine ≡ u.done ++ t.d ∷ t.rest
     m = middle old waiting told over n ns u is
+
     none : AllByRecursion (λ d. d.outcome ≡ None) (t.d ∷ t.rest)
     none = subst (λ (l : List views.Drawn). AllByRecursion (λ d. d.outcome ≡ None) l) t.left_is u.without
+
     rising : seats.AreRising (u.done ++ t.d ∷ t.rest) old.seen
     rising = subst (λ (l : List views.Drawn). seats.AreRising l old.seen) m u.rising
+
     step : views.with_outcome old.mine n o ≡ u.done ++ with_told t.d o ∷ t.rest
     step = ap₂ (λ (l : List views.Drawn) (k : ℕ). views.with_outcome l k o) m (sym t.number) ∙ told_middle u.done t.d t.rest old.seen o rising
+
     one : map agreement.told_outcome (with_told t.d o ∷ []) ≡ map Some (callers_calls.given_of (n, o) ∷ [])
     one = ap (λ (k : ℕ). Some (callers_calls.given_of (k, o)) ∷ []) t.number
+
     looks : new.looks ≡ old.looks ++ window_calls.look (window_words.state_word places n) (window_words.answered n) ∷ []
     looks = ap (λ (s : views.SeatView). s.looks) p.seat
+
     by_why : IsTrue over ⊎ agreement.IsLast o → callers_calls.MayBeOver new (told ++ (n, o) ∷ [])
     by_why (inl before) = told_more new told (n, o) (still_over old new (window_calls.look (window_words.state_word places n) (window_words.answered n) ∷ []) told looks (u.reason before))
     by_why (inr last) = inl (last_here told n o last)
@@ -236,9 +243,9 @@ found_spent old new waiting told over over' next u s =
     let v = saw old new waiting told over next (window_calls.look window_words.Next next ∷ []) u s.after s.seat in
     let looks : new.looks ≡ old.looks ++ window_calls.look window_words.Next next ∷ [] = ap (λ (x : views.SeatView). x.looks) s.seat in
     let spent : Contains new.looks (window_calls.look window_words.Next window_words.last_number) =
-        subst (λ (ls : List window_words.Look). Contains ls (window_calls.look window_words.Next window_words.last_number)) (sym looks)
-        (subst (λ (k : ℕ). Contains (old.looks ++ window_calls.look window_words.Next k ∷ []) (window_calls.look window_words.Next window_words.last_number)) (sym s.last)
-            (Contains-push old.looks (window_calls.look window_words.Next window_words.last_number))) in record {
+    subst (λ (ls : List window_words.Look). Contains ls (window_calls.look window_words.Next window_words.last_number)) (sym looks)
+    (subst (λ (k : ℕ). Contains (old.looks ++ window_calls.look window_words.Next k ∷ []) (window_calls.look window_words.Next window_words.last_number)) (sym s.last)
+    (Contains-push old.looks (window_calls.look window_words.Next window_words.last_number))) in record {
       done = v.done;
       left = v.left;
       mine_is = v.mine_is;
@@ -293,8 +300,10 @@ reported calls seat told over u s = record {
     none : (l : List views.Drawn) → [] ≡ map (λ d. d.number) l → l ≡ []
     none [] e = refl
     none (d ∷ l) e = absurd (cc)
+
     all : seat.mine ≡ u.done
     all = u.mine_is ∙ (ap (λ (l : List views.Drawn). u.done ++ l) (none u.left u.waiting_are) ∙ append-nil u.done)
+
     by_why : (s.rest ≡ []) ⊎ IsTrue over
         → (s.rest ≡ []) ⊎ (((g : views.GivenOutcome) × Contains (callers_calls.all_given told) g × agreement.IsLast g.outcome) ⊎ Contains seat.looks (window_calls.look window_words.Next window_words.last_number))
     by_why (inl done) = inl done

@@ -110,8 +110,7 @@ impl<G: Gate + 'static> Spawner<G> for ThreadSpawner {
 
     fn note(&mut self, _report: &CallerReport)
         ensures { self.new.faults ≡ self.old.faults }
-    {
-    }
+    {}
 }
 
 /// Refuses one caller, and tells what the others were told while there is memory for copies.

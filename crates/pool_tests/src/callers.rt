@@ -27,14 +27,25 @@ fn adds(alloc: Global) -> Result<List<WindowCall>, Fail> {
 }
 
 // Answers each call as lost, or where `stops` as one that the pump gave up, until so many callers have ended.
-fn pump_on(rt: &impl Wait, window: &Window, pump: &mut Pump, ended: &AtomicU64, stops: bool, callers: u64)
+fn pump_on(
+    rt: &impl Wait,
+    window: &Window,
+    pump: &mut Pump,
+    ended: &AtomicU64,
+    stops: bool,
+    callers: u64,
+)
     requires { pump.old.window ≡ window.now.table.shared.table_id }
     ensures { pump.new.window ≡ pump.old.window }
 {
     'pumping: for _ in rt.forever() {
         match window.take(pump) {
             Ok((number, _)) => {
-                let outcome = if stops { Outcome::Stopped } else { Outcome::Lost };
+                let outcome = if stops {
+                    Outcome::Stopped
+                } else {
+                    Outcome::Lost
+                };
                 window.answer(pump, number, outcome);
             }
             Err(_) => {
@@ -57,7 +68,15 @@ fn told_of_one(rt: HostRuntime, stops: bool) -> Result<usize, Fail> {
     let gate = Arc::new(alloc, FreeGate)?;
     let mut spawner = CountedSpawner::new(alloc, 0);
     let seat = seats.into_vec().pop().ok_or("no seat")?;
-    let job = CallerJob::new(alloc, window.clone()?, seat, 1, adds(alloc)?, ended.clone()?, gate)?;
+    let job = CallerJob::new(
+        alloc,
+        window.clone()?,
+        seat,
+        1,
+        adds(alloc)?,
+        ended.clone()?,
+        gate,
+    )?;
     let task = spawner.spawn(&rt, job)?;
     pump_on(&rt, &window, &mut pump, &ended, stops, 1);
     let report = Spawner::<FreeGate>::join(&mut spawner, &rt, task);

@@ -6,7 +6,9 @@ use race_gate::FreeGate;
 use std::alloc::Global;
 use std::sync::{Arc, Wait};
 use std::test::Fail;
-use watch_feed::{CountedFeedSpawner, FeedIn, FeedItem, FeedSpawner, ListenerJob, close_feed, open_feed};
+use watch_feed::{
+    CountedFeedSpawner, FeedIn, FeedItem, FeedSpawner, ListenerJob, close_feed, open_feed,
+};
 use watch_hooks::Filters;
 
 const ITEMS: u64 = 200;

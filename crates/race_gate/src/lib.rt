@@ -11,7 +11,6 @@ pub trait Gate: Send + Sync + Drop {
 #[derive(Clone, Copy)]
 pub struct FreeGate;
 
-
 impl Gate for FreeGate {
     fn pass(&self, _caller: u8, _number: u64) {}
 }

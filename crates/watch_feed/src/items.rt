@@ -4,7 +4,11 @@ use ax_types::{Duplicate, Event, NoMemory};
 #[derive(Clone, Drop)]
 pub enum FeedItem {
     /// An event that a session of the feed's client heard.
-    Heard { session: u64, place: u64, event: Event },
+    Heard {
+        session: u64,
+        place: u64,
+        event: Event,
+    },
     /// The feed has no more items.
     Last,
 }

@@ -112,8 +112,7 @@ impl<G: Gate + 'static> FeedSpawner<G> for ThreadFeedSpawner {
 
     fn note(&mut self, _heard: &List<FeedItem>)
         ensures { self.new.faults ≡ self.old.faults }
-    {
-    }
+    {}
 }
 
 /// Refuses one listener, and tells what the others heard while there is memory for copies.
