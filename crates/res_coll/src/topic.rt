@@ -72,6 +72,13 @@ impl TopicBox {
         Ok(Turn::quiet(self.alloc, Reply::Done))
     }
 
+    /// Whether the session subscribes.
+    pub fn knows(&self, session: u64) -> bool
+        ensures { result ≡ dicts.has_session self.now session }
+    {
+        self.subscribers.contains(session)
+    }
+
     /// The session subscribes no more.
     pub fn unlisten(&mut self, session: u64)
         ensures { self.new ≡ dicts.without_session self.old session }
@@ -94,11 +101,11 @@ impl TopicBox {
         ensures turn { result ≡ (collections.topic_act [] session TopicOp.Unsubscribe self.old).turn }
         ensures after { self.new ≡ (collections.topic_act [] session TopicOp.Unsubscribe self.old).state }
     {
-        if !self.subscribers.contains(session) {
-            return Turn::quiet(self.alloc, Reply::No);
+        if self.subscribers.unlisten(session) {
+            Turn::quiet(self.alloc, Reply::Yes)
+        } else {
+            Turn::quiet(self.alloc, Reply::No)
         }
-        self.subscribers.unlisten(session);
-        Turn::quiet(self.alloc, Reply::Yes)
     }
 
     /// Tells the text to each session that subscribes.

@@ -1,7 +1,7 @@
 //! Groups, whose earliest member leads.
 #![tactic(auto)]
 
-ghost use Rattle.std.specs.Prelude.{◌≡◌, ℕ, false, true, ◌∷◌, [], ◌++◌, option_to_list, IfOk, OnOk, OnErr, slice_get};
+ghost use Rattle.std.specs.Prelude.{◌≡◌, ℕ, false, true, ◌||◌, ◌∷◌, [], ◌++◌, option_to_list, IfOk, OnOk, OnErr, slice_get};
 ghost use Rattle.spec_book.specs.Dict as dicts;
 ghost use Rattle.spec_book.specs.Resources as resources;
 ghost use Rattle.spec_book.specs.Owners as owners;
@@ -103,6 +103,13 @@ impl GroupBox {
         let turn = self.departed(place, session, told);
         self.unlisten(session);
         Ok(turn)
+    }
+
+    /// Whether the session is a member or listens.
+    pub fn knows(&self, session: u64) -> bool
+        ensures { result ≡ (dicts.has_session self.now.members session || dicts.has_session self.now.listeners session) }
+    {
+        self.members.contains(session) || self.listeners.contains(session)
     }
 
     /// The session listens no more.

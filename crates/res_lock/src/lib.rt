@@ -119,7 +119,7 @@ impl LockBox {
     }
 
     /// Whether the session holds the lock or waits for it.
-    fn has_part(&self, session: u64) -> bool
+    pub fn has_part(&self, session: u64) -> bool
         ensures { result ≡ owners.has_part self.now session }
     {
         self.is_holder(session) || self.waiting.contains(session)

@@ -118,6 +118,13 @@ impl MapBox {
         Ok(Turn::quiet(self.alloc, Reply::Done))
     }
 
+    /// Whether the session listens.
+    pub fn knows(&self, session: u64) -> bool
+        ensures { result ≡ dicts.has_session self.now.listeners session }
+    {
+        self.listeners.contains(session)
+    }
+
     /// The session listens no more.
     pub fn unlisten(&mut self, session: u64)
         ensures { self.new ≡ map_turns.map_unlistened session self.old }

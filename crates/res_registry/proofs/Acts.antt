@@ -44,7 +44,7 @@ remove-listeners name key (Some old) m = refl
 -- the listeners are those before, or those after the session listens
 pub after_map : (P : List ℕ → Type 0) (name : List ℕ) (time session : ℕ) (o : MapOp) (m : resources.MapState)
     → P m.listeners
-    → (indexes.registers (op.Map o) ≡ true → P (scalars.listen_after m.listeners session))
+    → (indexes.concerns (op.Map o) ≡ true → P (scalars.listen_after m.listeners session))
     → P (map_turns.map_act name time session o m).state.listeners
 after_map P name time session (map_op.Put k v) m same more = subst P (sym (put-listeners name k (map_turns.lasting v) (dicts.found m.entries k) m)) same
 after_map P name time session (map_op.PutIfAbsent k v) m same more =
@@ -59,7 +59,7 @@ after_map P name time session (map_op.PutFor k v life) m same more =
 -- ---- values
 pub after_value : (P : List ℕ → Type 0) (name : List ℕ) (session : ℕ) (o : ValueOp) (text : Option (List ℕ)) (ls : List ℕ)
     → P ls
-    → (indexes.registers (op.Value o) ≡ true → P (scalars.listen_after ls session))
+    → (indexes.concerns (op.Value o) ≡ true → P (scalars.listen_after ls session))
     → P (scalars.value_act name session o (record { text = text; listeners = ls })).state.listeners
 after_value P name session (value_op.Set v) text ls same more = same
 after_value P name session (value_op.Cas e v) text ls same more =
@@ -74,53 +74,53 @@ after_value P name session value_op.Listen text ls same more = more refl
 -- ---- topics
 pub after_topic : (P : List ℕ → Type 0) (name : List ℕ) (session : ℕ) (o : TopicOp) (s : List ℕ)
     → P s
-    → (indexes.registers (op.Topic o) ≡ true → P (scalars.listen_after s session))
-    → P (dicts.without_session s session)
+    → (indexes.concerns (op.Topic o) ≡ true → P (scalars.listen_after s session))
+    → (indexes.concerns (op.Topic o) ≡ true → P (dicts.without_session s session))
     → P (collections.topic_act name session o s).state
 after_topic P name session topic_op.Subscribe s same more less = more refl
 after_topic P name session topic_op.Unsubscribe s same more less =
-    either (λ (a : resources.Acted (List ℕ)). P a.state) (dicts.has_session s session) (resources.replied (dicts.without_session s session) reply.Yes) (resources.replied s reply.No) less same
+    either (λ (a : resources.Acted (List ℕ)). P a.state) (dicts.has_session s session) (resources.replied (dicts.without_session s session) reply.Yes) (resources.replied s reply.No) (less refl) same
 after_topic P name session (topic_op.Publish v) s same more less = same
 
 -- ---- locks
--- what holds of both holds of whichever is taken, where the test is known in the second
-pub either_unless : {A : Type 0} (P : A → Type 0) (b : Bool) (x y : A) → P x → (b ≡ false → P y) → P (cond b x y)
-either_unless P true x y p q = p
-either_unless P false x y p q = q refl
+-- what holds of both holds of whichever is taken, where the test is known in each
+either_by : {A : Type 0} (P : A → Type 0) (b : Bool) (x y : A) → (b ≡ true → P x) → (b ≡ false → P y) → P (cond b x y)
+either_by P true x y p q = p refl
+either_by P false x y p q = q refl
 
 lock_taken-after : (P : resources.LockState → Type 0) (name : List ℕ) (place session : ℕ) (holder : Option resources.Holder) (l : resources.LockState)
     → P l
-    → P (record l { holder = owners.held_from place session })
+    → (holder ≡ None → P (record l { holder = owners.held_from place session }))
     → P (record l { waiting = l.waiting ++ session ∷ [] })
     → P (owners.lock_taken name place session holder l).state
-lock_taken-after P name place session None l same holds waits = holds
+lock_taken-after P name place session None l same holds waits = holds refl
 lock_taken-after P name place session (Some h) l same holds waits =
     either (λ (a : resources.Acted resources.LockState). P a.state) (limits.is_full l.waiting) (resources.replied l reply.Full) (resources.replied (record l { waiting = l.waiting ++ session ∷ [] }) reply.Done)
     same waits
 
 lock_tried-after : (P : resources.LockState → Type 0) (place session : ℕ) (holder : Option resources.Holder) (l : resources.LockState)
     → P l
-    → P (record l { holder = owners.held_from place session })
+    → (holder ≡ None → P (record l { holder = owners.held_from place session }))
     → P (owners.lock_tried place session holder l).state
-lock_tried-after P place session None l same holds = holds
+lock_tried-after P place session None l same holds = holds refl
 lock_tried-after P place session (Some h) l same holds = same
 
 pub after_lock : (P : resources.LockState → Type 0) (name : List ℕ) (place session : ℕ) (o : LockOp) (l : resources.LockState)
     → P l
-    → (indexes.registers (op.Lock o) ≡ true → P (record l { holder = owners.held_from place session }))
-    → (indexes.registers (op.Lock o) ≡ true → owners.has_part l session ≡ false → P (record l { waiting = l.waiting ++ session ∷ [] }))
-    → P (owners.lock_freed name place reply.Done l.waiting).state
+    → (l.holder ≡ None → P (record l { holder = owners.held_from place session }))
+    → (owners.has_part l session ≡ false → P (record l { waiting = l.waiting ++ session ∷ [] }))
+    → (owners.is_holder l.holder session ≡ true → P (owners.lock_freed name place reply.Done l.waiting).state)
     → P (record l { waiting = dicts.without_session l.waiting session })
     → P (owners.lock_act name place session o l).state
 after_lock P name place session lock_op.Lock l same holds waits freed less =
-    either_unless (λ (a : resources.Acted resources.LockState). P a.state) (owners.has_part l session) (resources.replied l reply.Already) (owners.lock_taken name place session l.holder l)
-    same (λ apart. lock_taken-after P name place session l.holder l same (holds refl) (waits refl apart))
+    either_by (λ (a : resources.Acted resources.LockState). P a.state) (owners.has_part l session) (resources.replied l reply.Already) (owners.lock_taken name place session l.holder l)
+    (λ known. same) (λ apart. lock_taken-after P name place session l.holder l same holds (waits apart))
 after_lock P name place session lock_op.TryLock l same holds waits freed less =
     either (λ (a : resources.Acted resources.LockState). P a.state) (owners.has_part l session) (resources.replied l reply.Already) (owners.lock_tried place session l.holder l)
-    same (lock_tried-after P place session l.holder l same (holds refl))
+    same (lock_tried-after P place session l.holder l same holds)
 after_lock P name place session lock_op.Unlock l same holds waits freed less =
-    either (λ (a : resources.Acted resources.LockState). P a.state) (owners.is_holder l.holder session) (owners.lock_freed name place reply.Done l.waiting) (resources.replied l reply.NotHolder)
-    freed same
+    either_by (λ (a : resources.Acted resources.LockState). P a.state) (owners.is_holder l.holder session) (owners.lock_freed name place reply.Done l.waiting) (resources.replied l reply.NotHolder)
+    freed (λ apart. same)
 after_lock P name place session lock_op.Cancel l same holds waits freed less =
     either (λ (a : resources.Acted resources.LockState). P a.state) (dicts.has_session l.waiting session) (resources.replied (record l { waiting = dicts.without_session l.waiting session }) reply.Yes)
     (resources.replied l reply.No) less same
@@ -128,17 +128,17 @@ after_lock P name place session lock_op.Cancel l same holds waits freed less =
 -- ---- groups, by their members and listeners
 pub after_group : (P : List ℕ → List ℕ → Type 0) (name : List ℕ) (place session : ℕ) (o : GroupOp) (g : resources.GroupState)
     → P g.members g.listeners
-    → (indexes.registers (op.Group o) ≡ true → dicts.has_session g.members session ≡ false → P (g.members ++ session ∷ []) g.listeners)
+    → (dicts.has_session g.members session ≡ false → P (g.members ++ session ∷ []) g.listeners)
     → P (dicts.without_session g.members session) g.listeners
-    → (indexes.registers (op.Group o) ≡ true → P g.members (scalars.listen_after g.listeners session))
+    → P g.members (scalars.listen_after g.listeners session)
     → P (owners.group_act name place session o g).state.members (owners.group_act name place session o g).state.listeners
 after_group P name place session group_op.Join g same joins leaves listens =
     let Q : resources.Acted resources.GroupState → Type 0 = λ a. P a.state.members a.state.listeners in
     let joined : resources.Acted resources.GroupState = owners.members_changed name place (g.members ++ session ∷ []) (event.Joined name session) g in
-    either_unless Q (dicts.has_session g.members session) (resources.replied g reply.Already) (cond (limits.is_full g.members) (resources.replied g reply.Full) joined)
-    same (λ apart. either Q (limits.is_full g.members) (resources.replied g reply.Full) joined same (joins refl apart))
+    either_by Q (dicts.has_session g.members session) (resources.replied g reply.Already) (cond (limits.is_full g.members) (resources.replied g reply.Full) joined)
+    (λ known. same) (λ apart. either Q (limits.is_full g.members) (resources.replied g reply.Full) joined same (joins apart))
 after_group P name place session group_op.Leave g same joins leaves listens =
     let Q : resources.Acted resources.GroupState → Type 0 = λ a. P a.state.members a.state.listeners in
     let left : resources.Acted resources.GroupState = owners.members_changed name place (dicts.without_session g.members session) (event.Left name session) g in
     either Q (dicts.has_session g.members session) left (resources.replied g reply.NotMember) leaves same
-after_group P name place session group_op.Listen g same joins leaves listens = listens refl
+after_group P name place session group_op.Listen g same joins leaves listens = listens

@@ -19,11 +19,13 @@ use Rattle.res_registry.proofs.Sessions.{or_either, same_session}
 use Rattle.res_registry.proofs.Quiet.{quiet-unlistened, quiet-end, quiet-pass}
 use Rattle.res_registry.proofs.Single.{forgotten}
 use Rattle.res_registry.proofs.Each.{Each, Each-whole}
-use Rattle.res_registry.proofs.Indexes.{HasNames-unlistened, HasNames-pass, HasNames-left}
+use Rattle.res_registry.proofs.Indexes.{HasEnds, HasNames, has_ends, known_whole}
+use Rattle.res_registry.proofs.Known.{other_ended}
+use Rattle.res_registry.specs.BookSteps as book_steps
 
 -- ---- the names of a session
 -- a resource whose name the index has not does not know the session
-unknown : (book : books.Book) (index : List (ℕ × List (List ℕ))) (session : ℕ) (name : List ℕ) (r : resources.Resource) → indexes.HasNames book index → dicts.found book name ≡ Some r
+unknown : (book : books.Book) (index : List (ℕ × List (List ℕ))) (session : ℕ) (name : List ℕ) (r : resources.Resource) → HasNames book index → dicts.found book name ≡ Some r
     → dicts.has_text (indexes.session_names index session) name ≡ false → indexes.knows r session ≡ false
 unknown book index session name r has there absent = by_known (indexes.knows r session) refl
   where
@@ -31,23 +33,23 @@ unknown book index session name r has there absent = by_known (indexes.knows r s
     by_known true e = absurd (false≢true (sym absent ∙ has name r session there e))
     by_known false e = refl
 
-pub idle_unlisten : (session : ℕ) (book : books.Book) (index : List (ℕ × List (List ℕ))) → indexes.HasNames book index
+pub idle_unlisten : (session : ℕ) (book : books.Book) (index : List (ℕ × List (List ℕ))) → HasNames book index
     → IsIdleOutside (walks.unlisten_visit session) (indexes.session_names index session) book
 idle_unlisten session book index has = λ k r there absent. (quiet-unlistened session r (unknown book index session k r has there absent), refl)
 
-pub idle_leave : (place session : ℕ) (book : books.Book) (index : List (ℕ × List (List ℕ))) → indexes.HasNames book index
+pub idle_leave : (place session : ℕ) (book : books.Book) (index : List (ℕ × List (List ℕ))) → HasNames book index
     → IsIdleOutside (walks.leave_visit place session) (indexes.session_names index session) book
 idle_leave place session book index has = λ k r there absent.
     let q = quiet-end k place session r (unknown book index session k r has there absent) in
     (ap (λ (a : resources.Acted resources.Resource). a.state) q, ap (λ (a : resources.Acted resources.Resource). a.turn.told) q)
 
-pub walked_unlistened : (session : ℕ) (book : books.Book) (index : List (ℕ × List (List ℕ))) → indexes.HasNames book index
+pub walked_unlistened : (session : ℕ) (book : books.Book) (index : List (ℕ × List (List ℕ))) → HasNames book index
     → IsStrictlySortedBy dicts.bytes_cmp (indexes.session_names index session) → IsStrictlySortedBy dicts.bytes_cmp (keys_of book)
     → walks.walked_state (walks.unlisten_visit session) (indexes.session_names index session) book ≡ books.all_unlistened session book
 walked_unlistened session book index has ordered sorted =
     (walked_whole (walks.unlisten_visit session) (indexes.session_names index session) book ordered sorted (idle_unlisten session book index has)).0
 
-pub walked_left : (place session : ℕ) (book : books.Book) (index : List (ℕ × List (List ℕ))) → indexes.HasNames book index
+pub walked_left : (place session : ℕ) (book : books.Book) (index : List (ℕ × List (List ℕ))) → HasNames book index
     → IsStrictlySortedBy dicts.bytes_cmp (indexes.session_names index session) → IsStrictlySortedBy dicts.bytes_cmp (keys_of book)
     → (walks.walked_state (walks.leave_visit place session) (indexes.session_names index session) book ≡ books.left_by place session book)
     × (walks.walked_told (walks.leave_visit place session) (indexes.session_names index session) book ≡ books.left_told place session book)
@@ -78,7 +80,7 @@ has_passed-from_end (d ∷ ends) time end name has below =
         or_left here (deadlines.has_passed dicts.bytes_cmp time ends name) (and_from (nat_le d.0 time) (is_at (dicts.bytes_cmp name) d.1) (at parts.0) parts.1)
     by_either (inr e) more = or_right here (deadlines.has_passed dicts.bytes_cmp time ends name) (more e)
 
-pub idle_pass : (time : ℕ) (names : List (List ℕ)) (book : books.Book) (ends : List (ℕ × List ℕ)) → indexes.HasEnds book ends
+pub idle_pass : (time : ℕ) (names : List (List ℕ)) (book : books.Book) (ends : List (ℕ × List ℕ)) → HasEnds book ends
     → ((name : List ℕ) → dicts.has_text names name ≡ deadlines.has_passed dicts.bytes_cmp time ends name)
     → IsIdleOutside (walks.pass_visit time) names book
 idle_pass time names book ends has are = λ k r there absent. quiet-pass k time r (later k r there absent (indexes.next_end r) refl)
@@ -92,12 +94,12 @@ idle_pass time names book ends has are = λ k r there absent. quiet-pass k time 
         by_time (inl l) = l
         by_time (inr l) = absurd (false≢true (sym absent ∙ (are k ∙ has_passed-from_end ends time end k (has k r end there e) l)))
 
-pub walked_passed : (time : ℕ) (names : List (List ℕ)) (book : books.Book) (ends : List (ℕ × List ℕ)) → indexes.HasEnds book ends
+pub walked_passed : (time : ℕ) (names : List (List ℕ)) (book : books.Book) (ends : List (ℕ × List ℕ)) → indexes.IsEndIndex book ends
     → ((name : List ℕ) → dicts.has_text names name ≡ deadlines.has_passed dicts.bytes_cmp time ends name)
     → IsStrictlySortedBy dicts.bytes_cmp names → IsStrictlySortedBy dicts.bytes_cmp (keys_of book)
     → (walks.walked_state (walks.pass_visit time) names book ≡ books.pass time book) × (walks.walked_told (walks.pass_visit time) names book ≡ books.passed time book)
 walked_passed time names book ends has are ordered sorted =
-    let w = walked_whole (walks.pass_visit time) names book ordered sorted (idle_pass time names book ends has are) in
+    let w = walked_whole (walks.pass_visit time) names book ordered sorted (idle_pass time names book ends (has_ends book ends has) are) in
     (w.0, w.1 ∙ whole_passed time book)
 
 no_names : IsStrictlySortedBy dicts.bytes_cmp []
@@ -105,7 +107,7 @@ unfolding IsStrictlySortedBy
 no_names = tt
 
 -- where no life has ended, nothing passes
-pub none_passed : (time : ℕ) (book : books.Book) (ends : List (ℕ × List ℕ)) → indexes.HasEnds book ends → deadlines.any_passed time ends ≡ false
+pub none_passed : (time : ℕ) (book : books.Book) (ends : List (ℕ × List ℕ)) → indexes.IsEndIndex book ends → deadlines.any_passed time ends ≡ false
     → IsStrictlySortedBy dicts.bytes_cmp (keys_of book) → (book ≡ books.pass time book) × ([] ≡ books.passed time book)
 none_passed time book ends has none sorted =
     walked_passed time [] book ends has (λ name. sym (has_passed-none dicts.bytes_cmp time ends name none)) no_names sorted
@@ -129,18 +131,27 @@ all_forgotten place time session book single =
     subst P (ended_whole place time session book)
     (Each-whole (λ name r. one_of_each.IsSingle r) Q (end_visit place time session) book (λ name r once. forgotten name place time session r once) single)
 
--- so the index need not have the names of the session any more
-pub HasNames-ended : (place time session : ℕ) (book : books.Book) (index now : List (ℕ × List (List ℕ))) → one_of_each.AreSingle book → indexes.HasNames book index
-    → ((s : ℕ) → is_at (nat_cmp session) s ≡ false → indexes.session_names now s ≡ indexes.session_names index s)
-    → indexes.HasNames (books.left_by place session (books.pass time (books.all_unlistened session book))) now
-HasNames-ended place time session book index now single has others = λ name r s there is. by_test name r s there is (is_at (nat_cmp session) s) refl
+-- so the index without the names of the session is that of the book after its end
+pub IsNameIndex-ended : (place time session : ℕ) (book : books.Book) (index now : List (ℕ × List (List ℕ))) → one_of_each.AreSingle book → indexes.IsNameIndex book index
+    → indexes.session_names now session ≡ [] → ((s : ℕ) → is_at (nat_cmp session) s ≡ false → indexes.session_names now s ≡ indexes.session_names index s)
+    → indexes.IsNameIndex (books.left_by place session (books.pass time (books.all_unlistened session book))) now
+IsNameIndex-ended place time session book index now single is gone others = λ s name. by_test s name (is_at (nat_cmp session) s) refl
   where
-    by_test : (name : List ℕ) (r : resources.Resource) (s : ℕ) → dicts.found (books.left_by place session (books.pass time (books.all_unlistened session book))) name ≡ Some r → indexes.knows r s ≡ true
-        → (b : Bool) → is_at (nat_cmp session) s ≡ b → dicts.has_text (indexes.session_names now s) name ≡ true
-    by_test name r s there is true t =
-        let unknown : indexes.knows r session ≡ false = all_forgotten place time session book single name r there in
-        absurd (false≢true (sym unknown ∙ (ap (λ (n : ℕ). indexes.knows r n) (same_session session s t) ∙ is)))
-    by_test name r s there is false t =
+    after : books.Book
+    after = books.left_by place session (books.pass time (books.all_unlistened session book))
+
+    nobody : (name : List ℕ) (o : Option resources.Resource) → dicts.found after name ≡ o → indexes.known_there o session ≡ false
+    nobody name None e = refl
+    nobody name (Some r) e = all_forgotten place time session book single name r e
+
+    by_test : (s : ℕ) (name : List ℕ) (b : Bool) → is_at (nat_cmp session) s ≡ b
+        → book_steps.has_name now s name ≡ indexes.known_there (dicts.found (books.left_by place session (books.pass time (books.all_unlistened session book))) name) s
+    by_test s name true t =
+        let P : ℕ → Type 0 = λ n. book_steps.has_name now n name ≡ indexes.known_there (dicts.found after name) n in
+        subst P (same_session session s t)
+        (ap (λ (names : List (List ℕ)). dicts.has_text names name) gone ∙ sym (nobody name (dicts.found after name) refl))
+    by_test s name false t =
         ap (λ (names : List (List ℕ)). dicts.has_text names name) (others s t)
-        ∙ HasNames-left place session (books.pass time (books.all_unlistened session book)) index
-        (HasNames-pass time (books.all_unlistened session book) index (HasNames-unlistened session book index has)) name r s there is
+        ∙ (is s name
+        ∙ (sym (known_whole (end_visit place time session) book s (λ k r. other_ended k place time session r s t) name)
+        ∙ ap (λ (b : books.Book). indexes.known_there (dicts.found b name) s) (ended_whole place time session book)))

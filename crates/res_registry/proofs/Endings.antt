@@ -1,5 +1,5 @@
 -- The steps of a session's end, walked over the names that the session touched.
-use Rattle.std.proofs.Common.{◌≡◌, ℕ, false, List, ◌++◌, sym, ap, ap₂, ◌∙◌, subst}
+use Rattle.std.proofs.Common.{◌≡◌, ℕ, false, List, [], ◌++◌, sym, ap, ap₂, ◌∙◌, subst}
 use Rattle.std.specs.Ordering.{nat_cmp}
 use Rattle.std.specs.List.Sorted.{IsStrictlySortedBy}
 use Rattle.std.specs.BTreeMap.{is_at}
@@ -28,9 +28,9 @@ module _ (session : ℕ) (book : books.Book) (ends : List (ℕ × List ℕ)) (in
       let S : books.Book → Type 0 = λ b. IsStrictlySortedBy dicts.bytes_cmp (keys_of b) in
       subst S (sym (quiet_book quiet walked)) (kept-unlistened session book ends index kept).0
 
-  pub quiet_ends : (quiet : books.Book) → quiet ≡ walks.walked_state (walks.unlisten_visit session) names book → indexes.HasEnds quiet ends
+  pub quiet_ends : (quiet : books.Book) → quiet ≡ walks.walked_state (walks.unlisten_visit session) names book → indexes.IsEndIndex quiet ends
   quiet_ends quiet walked =
-      let H : books.Book → Type 0 = λ b. indexes.HasEnds b ends in
+      let H : books.Book → Type 0 = λ b. indexes.IsEndIndex b ends in
       subst H (sym (quiet_book quiet walked)) (kept-unlistened session book ends index kept).1
 
   -- lives end
@@ -57,10 +57,11 @@ module _ (session : ℕ) (book : books.Book) (ends : List (ℕ × List ℕ)) (in
 
   pub left_kept : (place time : ℕ) (quiet lasting now : books.Book) (ends' : List (ℕ × List ℕ)) (index' : List (ℕ × List (List ℕ)))
       → quiet ≡ walks.walked_state (walks.unlisten_visit session) names book → lasting ≡ books.pass time quiet
-      → now ≡ walks.walked_state (walks.leave_visit place session) names lasting → indexes.HasEnds lasting ends'
+      → now ≡ walks.walked_state (walks.leave_visit place session) names lasting → indexes.IsEndIndex lasting ends'
+      → indexes.session_names index' session ≡ []
       → ((s : ℕ) → is_at (nat_cmp session) s ≡ false → indexes.session_names index' s ≡ indexes.session_names index s) → registry_kept.IsIndexedBook now ends' index'
-  left_kept place time quiet lasting now ends' index' walked passes leaves has others =
-      let H : books.Book → Type 0 = λ b. indexes.HasEnds b ends' in
+  left_kept place time quiet lasting now ends' index' walked passes leaves has gone others =
+      let H : books.Book → Type 0 = λ b. indexes.IsEndIndex b ends' in
       let K : books.Book → Type 0 = λ b. registry_kept.IsIndexedBook b ends' index' in
       subst K (sym (left_book place time quiet lasting now walked passes leaves))
-      (kept-ended place time session book ends ends' index index' kept (subst H (lasting_book time quiet lasting walked passes) has) others)
+      (kept-ended place time session book ends ends' index index' kept (subst H (lasting_book time quiet lasting walked passes) has) gone others)

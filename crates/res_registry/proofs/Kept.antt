@@ -1,5 +1,5 @@
 -- What a book keeps beside its resources stays kept: after lives ended, after a command, and after the end of a session.
-use Rattle.std.proofs.Common.{◌≡◌, ℕ, true, false, ◌⊎◌, inl, inr, List, Option, Some, sym, subst}
+use Rattle.std.proofs.Common.{◌≡◌, ℕ, false, List, [], Option, sym, subst}
 use Rattle.std.specs.Ordering.{nat_cmp}
 use Rattle.std.specs.List.Sorted.{IsStrictlySortedBy}
 use Rattle.std.specs.BTreeMap.{is_at}
@@ -15,9 +15,10 @@ use Rattle.res_registry.specs.BookSteps as book_steps
 use Rattle.res_deadlines.specs.Deadlines as deadlines
 use Rattle.res_registry.specs.Walk as walks
 use Rattle.res_registry.proofs.Walks.{whole_names}
-use Rattle.res_registry.proofs.Indexes.{HasNames-with, AreSingle-with, HasEnds-unlistened, HasEnds-left, HasNames-unlistened, HasNames-pass, AreSingle-unlistened, AreSingle-pass, AreSingle-left}
-use Rattle.res_registry.proofs.Ended.{walked_unlistened, walked_left, HasNames-ended}
-pub use Rattle.res_registry.proofs.Indexes.{HasEnds-with}
+use Rattle.res_registry.proofs.Indexes.{IsNameIndex-with, IsNameIndex-pass, AreSingle-with, IsEndIndex-unlistened, IsEndIndex-left, has_names, HasNames-unlistened, HasNames-pass, AreSingle-unlistened, AreSingle-pass, AreSingle-left}
+use Rattle.res_registry.proofs.Ended.{walked_unlistened, walked_left, IsNameIndex-ended}
+use Rattle.res_registry.proofs.Known.{Elsewhere}
+pub use Rattle.res_registry.proofs.Indexes.{IsEndIndex-with}
 
 -- the names ascend after each resource was visited
 ascending-whole : (f : walks.Visit) (book : books.Book) → IsStrictlySortedBy dicts.bytes_cmp (keys_of book) → IsStrictlySortedBy dicts.bytes_cmp (keys_of (walks.whole_state f book))
@@ -32,44 +33,41 @@ ascending-lasting time session book sorted =
 
 -- ---- after lives ended
 pub kept-pass : (time : ℕ) (book : books.Book) (ends after : List (ℕ × List ℕ)) (index : List (ℕ × List (List ℕ))) → registry_kept.IsIndexedBook book ends index
-    → indexes.HasEnds (books.pass time book) after → registry_kept.IsIndexedBook (books.pass time book) after index
+    → indexes.IsEndIndex (books.pass time book) after → registry_kept.IsIndexedBook (books.pass time book) after index
 kept-pass time book ends after index kept has = record {
   ascending = ascending-whole (walks.pass_visit time) book kept.ascending;
-  has_ends = has;
-  has_names = HasNames-pass time book index kept.has_names;
+  end_index = has;
+  name_index = IsNameIndex-pass time book index kept.name_index;
   are_single = AreSingle-pass time book kept.are_single;
 }
 
 -- ---- after a command
 pub kept-turn : (book : books.Book) (ends ends' : List (ℕ × List ℕ)) (index index' : List (ℕ × List (List ℕ))) (name : List ℕ) (r : book_resources.Resource) (before : Option ℕ)
     (session : ℕ) (o : Op) → registry_kept.IsIndexedBook book ends index → IsStrictlySortedBy dicts.bytes_cmp (keys_of (dicts.with_entry book name r))
+    → before ≡ indexes.end_there (dicts.found book name)
     → deadlines.ChangesDeadline dicts.bytes_cmp ends ends' name before (indexes.next_end r)
-    → ((time : ℕ) → before ≡ Some time → deadlines.has_deadline dicts.bytes_cmp ends time name ≡ true)
-    → book_steps.NotesName index index' session name o
-    → ((s : ℕ) → indexes.knows r s ≡ true → (dicts.has_text (indexes.session_names index s) name ≡ true) ⊎ ((s ≡ session) × (indexes.registers o ≡ true)))
+    → book_steps.NotesName index index' session name (indexes.knows_after o r session)
+    → ((s : ℕ) → Elsewhere o session s → indexes.knows r s ≡ indexes.known_there (dicts.found book name) s)
     → one_of_each.IsSingle r → registry_kept.IsIndexedBook (dicts.with_entry book name r) ends' index'
-kept-turn book ends ends' index index' name r before session o kept ascending changes had notes known single = record {
+kept-turn book ends ends' index index' name r before session o kept ascending was changes notes known single = record {
   ascending = ascending;
-  has_ends = HasEnds-with book ends ends' name r before changes had kept.has_ends;
-  has_names = HasNames-with book index index' name r kept.has_names notes.keeps (λ s is. by_known s (known s is));
+  end_index = IsEndIndex-with book ends ends' name r before was changes kept.end_index;
+  name_index = IsNameIndex-with book index index' name r session o notes known kept.name_index;
   are_single = AreSingle-with book name r kept.are_single single;
 }
-  where
-    by_known : (s : ℕ) → (dicts.has_text (indexes.session_names index s) name ≡ true) ⊎ ((s ≡ session) × (indexes.registers o ≡ true)) → dicts.has_text (indexes.session_names index' s) name ≡ true
-    by_known s (inl was) = notes.keeps s name was
-    by_known s (inr is) = let P : ℕ → Type 0 = λ n. dicts.has_text (indexes.session_names index' n) name ≡ true in subst P (sym is.0) (notes.has is.1)
 
 -- ---- after the end of a session
 pub kept-ended : (place time session : ℕ) (book : books.Book) (ends ends' : List (ℕ × List ℕ)) (index index' : List (ℕ × List (List ℕ))) → registry_kept.IsIndexedBook book ends index
-    → indexes.HasEnds (books.pass time (books.all_unlistened session book)) ends'
+    → indexes.IsEndIndex (books.pass time (books.all_unlistened session book)) ends'
+    → indexes.session_names index' session ≡ []
     → ((s : ℕ) → is_at (nat_cmp session) s ≡ false → indexes.session_names index' s ≡ indexes.session_names index s)
     → registry_kept.IsIndexedBook (books.left_by place session (books.pass time (books.all_unlistened session book))) ends' index'
-kept-ended place time session book ends ends' index index' kept has others =
+kept-ended place time session book ends ends' index index' kept has gone others =
     let lasting : books.Book = books.pass time (books.all_unlistened session book) in
     record {
       ascending = ascending-whole (walks.leave_visit place session) lasting (ascending-lasting time session book kept.ascending);
-      has_ends = HasEnds-left place session lasting ends' has;
-      has_names = HasNames-ended place time session book index index' kept.are_single kept.has_names others;
+      end_index = IsEndIndex-left place session lasting ends' has;
+      name_index = IsNameIndex-ended place time session book index index' kept.are_single kept.name_index gone others;
       are_single = AreSingle-left place session lasting (AreSingle-pass time (books.all_unlistened session book) (AreSingle-unlistened session book kept.are_single));
     }
 
@@ -77,12 +75,12 @@ kept-ended place time session book ends ends' index index' kept has others =
 pub unlisten-whole : (session : ℕ) (book : books.Book) (ends : List (ℕ × List ℕ)) (index : List (ℕ × List (List ℕ))) → registry_kept.IsIndexedBook book ends index
     → IsStrictlySortedBy dicts.bytes_cmp (indexes.session_names index session)
     → walks.walked_state (walks.unlisten_visit session) (indexes.session_names index session) book ≡ books.all_unlistened session book
-unlisten-whole session book ends index kept ordered = walked_unlistened session book index kept.has_names ordered kept.ascending
+unlisten-whole session book ends index kept ordered = walked_unlistened session book index (has_names book index kept.name_index) ordered kept.ascending
 
 pub kept-unlistened : (session : ℕ) (book : books.Book) (ends : List (ℕ × List ℕ)) (index : List (ℕ × List (List ℕ))) → registry_kept.IsIndexedBook book ends index
-    → IsStrictlySortedBy dicts.bytes_cmp (keys_of (books.all_unlistened session book)) × indexes.HasEnds (books.all_unlistened session book) ends
+    → IsStrictlySortedBy dicts.bytes_cmp (keys_of (books.all_unlistened session book)) × indexes.IsEndIndex (books.all_unlistened session book) ends
 kept-unlistened session book ends index kept =
-    (ascending-whole (walks.unlisten_visit session) book kept.ascending, HasEnds-unlistened session book ends kept.has_ends)
+    (ascending-whole (walks.unlisten_visit session) book kept.ascending, IsEndIndex-unlistened session book ends kept.end_index)
 
 pub left-whole : (place time session : ℕ) (book : books.Book) (ends : List (ℕ × List ℕ)) (index : List (ℕ × List (List ℕ))) → registry_kept.IsIndexedBook book ends index
     → IsStrictlySortedBy dicts.bytes_cmp (indexes.session_names index session)
@@ -91,5 +89,5 @@ pub left-whole : (place time session : ℕ) (book : books.Book) (ends : List (�
     × (walks.walked_told (walks.leave_visit place session) (indexes.session_names index session) lasting ≡ books.left_told place session lasting)
 left-whole place time session book ends index kept ordered =
     walked_left place session (books.pass time (books.all_unlistened session book)) index
-    (HasNames-pass time (books.all_unlistened session book) index (HasNames-unlistened session book index kept.has_names)) ordered
+    (HasNames-pass time (books.all_unlistened session book) index (HasNames-unlistened session book index (has_names book index kept.name_index))) ordered
     (ascending-lasting time session book kept.ascending)

@@ -12,7 +12,7 @@ use Rattle.spec_book.specs.Limits as limits
 use Rattle.spec_book.specs.Dict as dicts
 use Rattle.spec_book.specs.Scalars as scalars
 use Rattle.res_sessions.specs.EachOnce as each_once
-use Rattle.res_sessions.proofs.Sessions.{has_session-push, has_session-remove_key, absent_after_removal}
+use Rattle.res_sessions.proofs.Sessions.{has_session-push, has_session-remove_key, absent_after_removal, is_at-sym, three_tests}
 
 -- what holds of both holds of whichever is taken
 pub either : {A : Type 0} (P : A → Type 0) (b : Bool) (x y : A) → P x → P y → P (cond b x y)
@@ -41,14 +41,6 @@ among_cons s xs q h = by_test (is_at (nat_cmp q) s) refl h
     by_test true e h = inr (same_session q s e)
     by_test false e h = inl h
 
--- at the end
-pub among_push : (s : ℕ) (xs : List ℕ) (q : ℕ) → dicts.has_session (xs ++ s ∷ []) q ≡ true → (dicts.has_session xs q ≡ true) ⊎ (q ≡ s)
-among_push s xs q h = by_test (or_either (dicts.has_session xs q) (is_at (nat_cmp q) s) (sym (has_session-push xs s q) ∙ h))
-  where
-    by_test : (dicts.has_session xs q ≡ true) ⊎ (is_at (nat_cmp q) s ≡ true) → (dicts.has_session xs q ≡ true) ⊎ (q ≡ s)
-    by_test (inl e) = inl e
-    by_test (inr e) = inr (same_session q s e)
-
 -- in its place
 pub among_with : (s : ℕ) (xs : List ℕ) (q : ℕ) → dicts.has_session (dicts.with_session xs s) q ≡ true → (dicts.has_session xs q ≡ true) ⊎ (q ≡ s)
 among_with s [] q h = among_cons s [] q h
@@ -71,12 +63,46 @@ among_with s (x ∷ xs) q h = by_order (nat_cmp s x) h (among_with s xs q)
     by_order Equal h more = inl h
     by_order Greater h more = here_or (is_at (nat_cmp q) x) refl h more
 
--- among those that listen after one did
-pub among_listen : (s : ℕ) (xs : List ℕ) (q : ℕ) → dicts.has_session (scalars.listen_after xs s) q ≡ true → (dicts.has_session xs q ≡ true) ⊎ (q ≡ s)
-among_listen s xs q =
-    let P : List ℕ → Type 0 = λ ys. dicts.has_session ys q ≡ true → (dicts.has_session xs q ≡ true) ⊎ (q ≡ s) in
-    either P (dicts.has_session xs s) xs (cond (limits.is_full xs) xs (dicts.with_session xs s)) (λ h. inl h)
-    (either P (limits.is_full xs) xs (dicts.with_session xs s) (λ h. inl h) (among_with s xs q))
+-- ---- another session is among them exactly where it was before
+or_false : (b : Bool) → (b || false) ≡ b
+or_false true = refl
+or_false false = refl
+
+-- another than s, the other way round
+swapped : (s q : ℕ) → is_at (nat_cmp s) q ≡ false → is_at (nat_cmp q) s ≡ false
+swapped s q apart = is_at-sym q s ∙ apart
+
+-- after s came last
+pub other_push : (s : ℕ) (xs : List ℕ) (q : ℕ) → is_at (nat_cmp s) q ≡ false → dicts.has_session (xs ++ s ∷ []) q ≡ dicts.has_session xs q
+other_push s xs q apart = has_session-push xs s q ∙ (ap (λ (b : Bool). dicts.has_session xs q || b) (swapped s q apart) ∙ or_false (dicts.has_session xs q))
+
+-- after s came in its place
+other_with : (s : ℕ) (xs : List ℕ) (q : ℕ) → is_at (nat_cmp s) q ≡ false → dicts.has_session (dicts.with_session xs s) q ≡ dicts.has_session xs q
+other_with s [] q apart = ap (λ (b : Bool). b || false) (swapped s q apart)
+other_with s (x ∷ xs) q apart = by_order (nat_cmp s x) (other_with s xs q apart)
+  where
+    by_order : (o : Ordering) → dicts.has_session (dicts.with_session xs s) q ≡ dicts.has_session xs q
+        → dicts.has_session (match_ordering o (s ∷ x ∷ xs) (x ∷ xs) (x ∷ dicts.with_session xs s)) q ≡ dicts.has_session (x ∷ xs) q
+    by_order Less more = ap (λ (b : Bool). b || dicts.has_session (x ∷ xs) q) (swapped s q apart)
+    by_order Equal more = refl
+    by_order Greater more = ap (λ (b : Bool). is_at (nat_cmp q) x || b) more
+
+-- after s listened
+pub other_listen : (s : ℕ) (xs : List ℕ) (q : ℕ) → is_at (nat_cmp s) q ≡ false → dicts.has_session (scalars.listen_after xs s) q ≡ dicts.has_session xs q
+other_listen s xs q apart =
+    let P : List ℕ → Type 0 = λ ys. dicts.has_session ys q ≡ dicts.has_session xs q in
+    either P (dicts.has_session xs s) xs (cond (limits.is_full xs) xs (dicts.with_session xs s)) refl
+    (either P (limits.is_full xs) xs (dicts.with_session xs s) refl (other_with s xs q apart))
+
+-- after s was taken out
+pub other_without : (s : ℕ) (xs : List ℕ) (q : ℕ) → is_at (nat_cmp s) q ≡ false → dicts.has_session (dicts.without_session xs s) q ≡ dicts.has_session xs q
+other_without s [] q apart = refl
+other_without s (x ∷ xs) q apart = by_test (is_at (nat_cmp s) x) refl (other_without s xs q apart)
+  where
+    by_test : (b : Bool) → is_at (nat_cmp s) x ≡ b → dicts.has_session (dicts.without_session xs s) q ≡ dicts.has_session xs q
+        → dicts.has_session (cond b xs (x ∷ dicts.without_session xs s)) q ≡ dicts.has_session (x ∷ xs) q
+    by_test true t more = sym (ap (λ (b : Bool). b || dicts.has_session xs q) ((three_tests s x q).1 t apart))
+    by_test false t more = ap (λ (b : Bool). is_at (nat_cmp q) x || b) more
 
 -- a removal adds nobody
 pub among_without : (s : ℕ) (xs : List ℕ) (q : ℕ) → dicts.has_session (dicts.without_session xs s) q ≡ true → dicts.has_session xs q ≡ true

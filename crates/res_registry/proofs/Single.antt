@@ -52,18 +52,18 @@ IsSingle-act name place time session (op.Value o) (resources.AValue v) h =
     after_value each_once.EachOnce name session o v.text v.listeners h (λ r. EachOnce-listen session v.listeners h)
 IsSingle-act name place time session (op.Long o) (resources.ALong x) h = tt
 IsSingle-act name place time session (op.Lock o) (resources.ALock l) h =
-    after_lock (λ (a : resources.LockState). each_once.EachOnce a.waiting) name place session o l h (λ r. h)
-    (λ r apart. EachOnce-push l.waiting session h (not_waiting l session apart))
-    (EachOnce-freed name place reply.Done l.waiting h) (EachOnce-remove_key l.waiting session h)
+    after_lock (λ (a : resources.LockState). each_once.EachOnce a.waiting) name place session o l h (λ free. h)
+    (λ apart. EachOnce-push l.waiting session h (not_waiting l session apart))
+    (λ held. EachOnce-freed name place reply.Done l.waiting h) (EachOnce-remove_key l.waiting session h)
 IsSingle-act name place time session (op.Group o) (resources.AGroup g) h =
     after_group (λ (ms ls : List ℕ). each_once.EachOnce ms × each_once.EachOnce ls) name place session o g h
-    (λ r apart. (EachOnce-push g.members session h.0 apart, h.1)) (EachOnce-remove_key g.members session h.0, h.1)
-    (λ r. (h.0, EachOnce-listen session g.listeners h.1))
+    (λ apart. (EachOnce-push g.members session h.0 apart, h.1)) (EachOnce-remove_key g.members session h.0, h.1)
+    (h.0, EachOnce-listen session g.listeners h.1)
 IsSingle-act name place time session (op.Set o) (resources.ASet x) h = tt
 IsSingle-act name place time session (op.Queue o) (resources.AQueue x) h = tt
 IsSingle-act name place time session (op.Multimap o) (resources.AMultimap x) h = tt
 IsSingle-act name place time session (op.Topic o) (resources.ATopic t) h =
-    after_topic each_once.EachOnce name session o t h (λ r. EachOnce-listen session t h) (EachOnce-remove_key t session h)
+    after_topic each_once.EachOnce name session o t h (λ c. EachOnce-listen session t h) (λ c. EachOnce-remove_key t session h)
 IsSingle-act name place time session o r h = h
 
 -- ---- after a session's end, and after lives ended
@@ -93,19 +93,15 @@ IsSingle-end name place session r h = h
 -- ---- a session that ended is not known
 gone_from_lock : (name : List ℕ) (place session : ℕ) (l : resources.LockState) → each_once.EachOnce l.waiting → owners.has_part (owners.lock_end name place session l).state session ≡ false
 gone_from_lock name place session l once =
-    by_holder (owners.is_holder l.holder session) refl (owners.has_part (owners.lock_freed name place reply.Done waiting).state session) refl
+    by_holder (owners.is_holder l.holder session) refl
   where
-    waiting : List ℕ
-    waiting = dicts.without_session l.waiting session
-
     after : resources.LockState
     after = record l { waiting = dicts.without_session l.waiting session }
 
-    by_holder : (b : Bool) → owners.is_holder l.holder session ≡ b → (part : Bool) → owners.has_part (owners.lock_freed name place reply.Done (dicts.without_session l.waiting session)).state session ≡ part
+    by_holder : (b : Bool) → owners.is_holder l.holder session ≡ b
         → owners.has_part (cond b (owners.lock_freed name place reply.Done (dicts.without_session l.waiting session)) (resources.replied after reply.Done)).state session ≡ false
-    by_holder true e false p = p
-    by_holder true e true p = absurd (false≢true (sym (gone session l.waiting once) ∙ part_freed name place reply.Done (dicts.without_session l.waiting session) session p))
-    by_holder false e part p = rw e (gone session l.waiting once)
+    by_holder true e = part_freed name place reply.Done (dicts.without_session l.waiting session) session ∙ gone session l.waiting once
+    by_holder false e = rw e (gone session l.waiting once)
 
 gone_from_group : (name : List ℕ) (place session : ℕ) (g : resources.GroupState) → each_once.EachOnce g.members → dicts.has_session g.listeners session ≡ false
     → indexes.knows (resources.AGroup (owners.group_end name place session g).state) session ≡ false

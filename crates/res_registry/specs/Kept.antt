@@ -7,9 +7,9 @@ use Rattle.spec_book.specs.Book as books
 use Rattle.res_registry.specs.Indexes as registry_indexes
 use Rattle.res_registry.specs.OneOfEach as one_of_each
 
--- the names ascend, the indexes have all that they are to have, and each resource has each session at most once
+-- the names ascend, the indexes have exactly what they are to have, and each resource has each session at most once
 pub record IsIndexedBook (book : books.Book) (ends : List (ℕ × List ℕ)) (index : List (ℕ × List (List ℕ))) : Type 0 where
   pub ascending : IsStrictlySortedBy dicts.bytes_cmp (keys_of book)
-  pub has_ends : registry_indexes.HasEnds book ends
-  pub has_names : registry_indexes.HasNames book index
+  pub end_index : registry_indexes.IsEndIndex book ends
+  pub name_index : registry_indexes.IsNameIndex book index
   pub are_single : one_of_each.AreSingle book

@@ -2,7 +2,7 @@ ghost use Rattle.std.specs.Prelude.{◌≡◌};
 ghost use Rattle.spec_book.specs.Book as books;
 ghost use Rattle.res_registry.specs.Indexes as indexes;
 
-use ax_types::{GroupOp, Kind, LockOp, MapOp, Op, Query, TopicOp, ValueOp};
+use ax_types::{Kind, MapOp, Op, Query, TopicOp, ValueOp};
 
 /// The kind that an operation is of.
 pub fn op_kind(op: &Op) -> Kind
@@ -38,16 +38,16 @@ pub fn query_kind(query: &Query) -> Kind
     }
 }
 
-/// Whether an operation may make its session one that the resource knows.
-pub fn registers(op: &Op) -> bool
-    ensures { result ≡ indexes.registers op.now }
+/// Whether an operation may change whether the resource knows its session.
+pub fn concerns(op: &Op) -> bool
+    ensures { result ≡ indexes.concerns op.now }
 {
-    match op {
+    matches!(
+        op,
         Op::Map(MapOp::Listen)
-        | Op::Value(ValueOp::Listen)
-        | Op::Lock(LockOp::Lock | LockOp::TryLock)
-        | Op::Group(GroupOp::Join | GroupOp::Listen)
-        | Op::Topic(TopicOp::Subscribe) => true,
-        _ => false,
-    }
+            | Op::Value(ValueOp::Listen)
+            | Op::Lock(_)
+            | Op::Group(_)
+            | Op::Topic(TopicOp::Subscribe | TopicOp::Unsubscribe)
+    )
 }

@@ -1,4 +1,4 @@
-ghost use Rattle.std.specs.Prelude.{◌≡◌, ℕ, List as Items, [], true, false, cond, IfOk, OnOk, OnErr, IsTrue};
+ghost use Rattle.std.specs.Prelude.{◌≡◌, ℕ, List as Items, [], true, false, cond, IfOk, OnOk, OnErr};
 ghost use Rattle.std.specs.Ordering.{nat_cmp};
 ghost use Rattle.std.specs.List.Sorted.{IsStrictlySortedBy};
 ghost use Rattle.std.specs.BTreeMap.{is_at};
@@ -6,8 +6,7 @@ ghost use Rattle.spec_book.specs.Dict as dicts;
 ghost use Rattle.res_registry.specs.Indexes as indexes;
 ghost use Rattle.res_registry.specs.BookSteps as book_steps;
 
-use crate::kinds::registers;
-use ax_types::{Duplicate, Name, NoMemory, Op};
+use ax_types::{Duplicate, Name, NoMemory};
 use std::alloc::{AllocError, Global};
 use std::collections::btree_set::Iter;
 use std::collections::{BTreeMap, BTreeSet};
@@ -55,6 +54,13 @@ impl Names {
         Ok(())
     }
 
+    /// Takes a name out, if it is in.
+    pub fn remove(&mut self, name: &Name)
+        ensures { (q : Items ℕ) → dicts.has_text self.new q ≡ cond (is_at (dicts.bytes_cmp name.now) q) false (dicts.has_text self.old q) }
+    {
+        self.names.remove(name);
+    }
+
     /// The names, in ascending order.
     pub fn iter(&self) -> Iter<'_, Name>
         ensures rest { result ≡ self.now }
@@ -74,7 +80,7 @@ impl Clone for Names {
     }
 }
 
-/// For each session the names of resources that may know it, which contracts see as their list in ascending order of
+/// For each session the names of the resources that know it, which contracts see as their list in ascending order of
 /// session.
 #[derive(Drop)]
 pub struct Touched {
@@ -103,8 +109,7 @@ impl Touched {
 
     /// Adds the name to those of the session.
     fn add(&mut self, session: u64, name: &Name) -> Result<(), NoMemory>
-        ensures keeps { OnOk result ((s : ℕ) (q : Items ℕ) → dicts.has_text (indexes.session_names self.old s) q ≡ true → dicts.has_text (indexes.session_names self.new s) q ≡ true) }
-        ensures has { OnOk result (dicts.has_text (indexes.session_names self.new session) name.now ≡ true) }
+        ensures { OnOk result (book_steps.SetsName self.old self.new session name.now true) }
     {
         match self.names.get_mut(&session) {
             Some(names) => {
@@ -120,25 +125,40 @@ impl Touched {
         }
     }
 
-    /// Adds the name to those of the session where the operation may make the resource know the session.
-    pub fn note(&mut self, session: u64, name: &Name, op: &Op) -> Result<(), NoMemory>
-        ensures { OnOk result (book_steps.NotesName self.old self.new session name.now op.now) }
+    /// Where it is told whether the resource of the name knows the session now, the session has the name exactly where it
+    /// does.
+    pub fn note(&mut self, session: u64, name: &Name, known: Option<bool>) -> Result<(), NoMemory>
+        ensures { OnOk result (book_steps.NotesName self.old self.new session name.now known) }
     {
-        if registers(op) {
-            self.add(session, name)?;
+        match known {
+            None => Ok(()),
+            Some(true) => self.add(session, name),
+            Some(false) => {
+                remove_name(&mut self.names, session, name);
+                Ok(())
+            }
         }
-        Ok(())
     }
 
     /// Takes the names of a session out.
     pub fn take(&mut self, session: u64) -> Names
         ensures names { result ≡ indexes.session_names self.old session }
+        ensures gone { indexes.session_names self.new session ≡ [] }
         ensures others { (s : ℕ) → is_at (nat_cmp session) s ≡ false → indexes.session_names self.new s ≡ indexes.session_names self.old s }
     {
         match self.names.remove(&session) {
             None => Names::new(self.alloc),
             Some(names) => names,
         }
+    }
+}
+
+/// Takes the name out of those of the session.
+fn remove_name(index: &mut BTreeMap<u64, Names>, session: u64, name: &Name)
+    ensures { book_steps.SetsName index.old.entries index.new.entries session name.now false }
+{
+    if let Some(names) = index.get_mut(&session) {
+        names.remove(name);
     }
 }
 

@@ -15,7 +15,7 @@ use res_deadlines::Deadlines;
 use std::alloc::Global;
 use std::collections::BTreeMap;
 
-/// The resources by name, the next end of a life by name, and for each session the names of resources that may know it.
+/// The resources by name, the next end of a life by name, and for each session the names of the resources that know it.
 /// After want of memory an act may be half done.
 #[derive(Drop)]
 pub struct Shelf {
@@ -122,8 +122,9 @@ impl Shelf {
                 let before = slot.next_end();
                 let turn = slot.act(name, place, time, session, op)?;
                 let after = slot.next_end();
+                let known = slot.knows_after(op, session);
                 self.ends.change(name, before, after)?;
-                self.touched.note(session, name, op)?;
+                self.touched.note(session, name, known)?;
                 Ok(turn)
             }
         }
@@ -154,13 +155,14 @@ impl Shelf {
         let mut slot = Slot::new(alloc, op_kind(op));
         let turn = slot.act(name, place, time, session, op)?;
         self.ends.change(name, None, slot.next_end())?;
-        self.touched.note(session, name, op)?;
+        self.touched
+            .note(session, name, slot.knows_after(op, session))?;
         self.slots.insert(name.copy()?, slot)?;
         Ok(turn)
     }
 
     /// The end of a session: it listens no more, then lives end, then it leaves queues, locks and groups. Only the names
-    /// that it touched are walked over.
+    /// of resources that know it are walked over.
     fn end(&mut self, alloc: Global, place: u64, time: u64, session: u64) -> Result<Turn, NoMemory>
         requires { kept.IsIndexedBook self.old.slots.entries self.old.ends self.old.touched }
         ensures turn { IfOk result (λ turn. turn ≡ (books.ended self.old.slots.entries place time session).turn) }

@@ -3,6 +3,7 @@ ghost use Rattle.spec_book.specs.Resources as resources;
 ghost use Rattle.spec_book.specs.Book as books;
 ghost use Rattle.res_registry.specs.Indexes as indexes;
 
+use crate::kinds::concerns;
 use ax_types::{Duplicate, Event, Kind, List, Name, NoMemory, Op, Query, Reply, Turn};
 use res_coll::{MultimapBox, QueueBox, SetBox, TopicBox};
 use res_group::GroupBox;
@@ -164,6 +165,31 @@ impl Slot {
             | State::Queue(_)
             | State::Multimap(_)
             | State::Topic(_) => Ok(Turn::quiet(self.alloc, Reply::Done)),
+        }
+    }
+
+    /// Whether a session listens to the resource or has a part in it, so that its end may change the resource.
+    fn knows(&self, session: u64) -> bool
+        ensures { result ≡ indexes.knows self.now session }
+    {
+        match &self.state {
+            State::Map(map) => map.knows(session),
+            State::Value(value) => value.knows(session),
+            State::Lock(lock) => lock.has_part(session),
+            State::Group(group) => group.knows(session),
+            State::Topic(topic) => topic.knows(session),
+            State::Long(_) | State::Set(_) | State::Queue(_) | State::Multimap(_) => false,
+        }
+    }
+
+    /// Whether the resource knows the session, where an operation of the session may have changed it.
+    pub fn knows_after(&self, op: &Op, session: u64) -> Option<bool>
+        ensures { result ≡ indexes.knows_after op.now self.now session }
+    {
+        if concerns(op) {
+            Some(self.knows(session))
+        } else {
+            None
         }
     }
 

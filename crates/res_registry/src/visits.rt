@@ -79,7 +79,7 @@ fn pass_at(
 ) -> Result<List<(u64, Event)>, NoMemory>
     ensures told { IfOk result (λ told. told ≡ (walks.visited (walks.pass_visit time) slots.old.entries name.now).turn.told) }
     ensures after { OnOk result (slots.new.entries ≡ (walks.visited (walks.pass_visit time) slots.old.entries name.now).state) }
-    ensures ends { OnOk result (indexes.HasEnds slots.old.entries ends.old → indexes.HasEnds slots.new.entries ends.new) }
+    ensures ends { OnOk result (indexes.IsEndIndex slots.old.entries ends.old → indexes.IsEndIndex slots.new.entries ends.new) }
 {
     match slots.get_mut(name) {
         None => Ok(List::new(alloc)),
@@ -103,7 +103,7 @@ fn pass_all(
 ) -> Result<Vec<(u64, Event)>, NoMemory>
     ensures told { IfOk result (λ told. told.items ≡ walks.walked_told (walks.pass_visit time) names.now slots.old.entries) }
     ensures after { OnOk result (slots.new.entries ≡ walks.walked_state (walks.pass_visit time) names.now slots.old.entries) }
-    ensures ends { OnOk result (indexes.HasEnds slots.old.entries ends.old → indexes.HasEnds slots.new.entries ends.new) }
+    ensures ends { OnOk result (indexes.IsEndIndex slots.old.entries ends.old → indexes.IsEndIndex slots.new.entries ends.new) }
     ensures ascending { IsStrictlySortedBy dicts.bytes_cmp names.now }
 {
     let mut told = Vec::new(alloc);
@@ -123,10 +123,10 @@ pub fn pass(
     time: u64,
 ) -> Result<Vec<(u64, Event)>, NoMemory>
     requires ascending { IsStrictlySortedBy dicts.bytes_cmp (keys_of slots.old.entries) }
-    requires ends { indexes.HasEnds slots.old.entries ends.old }
+    requires ends { indexes.IsEndIndex slots.old.entries ends.old }
     ensures told { IfOk result (λ told. told.items ≡ books.passed time slots.old.entries) }
     ensures after { OnOk result (slots.new.entries ≡ books.pass time slots.old.entries) }
-    ensures ends { OnOk result (indexes.HasEnds slots.new.entries ends.new) }
+    ensures ends { OnOk result (indexes.IsEndIndex slots.new.entries ends.new) }
 {
     if !ends.any_passed(time) {
         return Ok(Vec::new(alloc));

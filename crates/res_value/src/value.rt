@@ -1,4 +1,5 @@
 ghost use Rattle.std.specs.Prelude.{◌≡◌, ℕ, IfOk, OnOk, OnErr, []};
+ghost use Rattle.spec_book.specs.Dict as dicts;
 ghost use Rattle.spec_book.specs.Resources as resources;
 ghost use Rattle.spec_book.specs.Scalars as scalars;
 
@@ -72,6 +73,13 @@ impl ValueBox {
     {
         self.unlisten(session);
         Ok(Turn::quiet(self.alloc, Reply::Done))
+    }
+
+    /// Whether the session listens.
+    pub fn knows(&self, session: u64) -> bool
+        ensures { result ≡ dicts.has_session self.now.listeners session }
+    {
+        self.listeners.contains(session)
     }
 
     /// The session listens no more.

@@ -8,4 +8,4 @@ abbrev pub invariant-loop-name : goal.invariant-loop-name
 invariant-loop-name l =
     (walks.walked_state (walks.pass_visit l.time) l.name-iterator l.slots.entries ≡ walks.walked_state (walks.pass_visit l.time) l.names l.initial.slots.entries)
     × (l.told.items ++ walks.walked_told (walks.pass_visit l.time) l.name-iterator l.slots.entries ≡ walks.walked_told (walks.pass_visit l.time) l.names l.initial.slots.entries)
-    × (indexes.HasEnds l.initial.slots.entries l.initial.ends → indexes.HasEnds l.slots.entries l.ends)
+    × (indexes.IsEndIndex l.initial.slots.entries l.initial.ends → indexes.IsEndIndex l.slots.entries l.ends)

@@ -35,4 +35,4 @@ returns-clause-kept c =
     left_kept c.args.session c.args.self.now.slots.entries c.args.self.now.ends c.args.self.now.touched c.take-names.result c.requires
     c.take-names.ensures.names c.unlisten_all.ensures.ascending c.args.place c.args.time c.unlisten_all.new.slots.entries c.pass.new.slots.entries
     c.leave_all.new.slots.entries c.pass.new.ends c.take-names.new.self c.unlisten_all.ensures.after c.in_ok-told.ensures.after
-    c.in_ok-leave_all.ensures.after c.in_ok-told.ensures.ends c.take-names.ensures.others
+    c.in_ok-leave_all.ensures.after c.in_ok-told.ensures.ends c.take-names.ensures.gone c.take-names.ensures.others
