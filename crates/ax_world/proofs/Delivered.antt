@@ -43,7 +43,7 @@ pub drop_refused : (w : worlds.World) (number : ℕ) (r : SkipReason) (b : Broug
     → scenes.Does w b (plans.plan w (step.Drop number))
 drop_refused w number r b refused is = rw is (rw refused (shows w r))
 
-pub drop_done : (w v : worlds.World) (number : ℕ) (b : Brought) → bags.mark_refusal w.bag number ≡ None → v ≡ record w { bag = bags.with_mark w.bag number } → b ≡ scenes.shown []
+pub drop_done : (w v : worlds.World) (number : ℕ) (b : Brought) → bags.mark_refusal w.bag number ≡ None → v ≡ record w { bag = bags.with_mark w.bag number } → b ≡ scenes.only_shown []
     → scenes.Does v b (plans.plan w (step.Drop number))
 drop_done w v number b free after is = rw after (rw is (rw free (shows_none (record w { bag = bags.with_mark w.bag number }))))
 

@@ -40,11 +40,11 @@ open_of w spent = record { timeout = w.timeout; hosts = w.hosts; is_spent = spen
 pub shows : (w : worlds.World) (r : SkipReason) → scenes.Does w (scenes.skipped r) (plans.skips w r)
 shows w r = record { moved = refl; may = refl }
 
-pub shows_none : (w : worlds.World) → scenes.Does w (scenes.shown []) (plans.shows_nothing w)
+pub shows_none : (w : worlds.World) → scenes.Does w (scenes.only_shown []) (plans.shows_nothing w)
 shows_none w = record { moved = refl; may = refl }
 
 -- an election
-pub elect_none : (w : worlds.World) (k : ℕ) (h : Option worlds.Host) (b : Brought) → is_some h ≡ false → b ≡ scenes.shown [] → scenes.Does w b (plans.elects w k h)
+pub elect_none : (w : worlds.World) (k : ℕ) (h : Option worlds.Host) (b : Brought) → is_some h ≡ false → b ≡ scenes.only_shown [] → scenes.Does w b (plans.elects w k h)
 elect_none w k None b none is = rw is (shows_none w)
 elect_none w k (Some h) b none is = absurd (cc)
 
@@ -67,7 +67,7 @@ elect_serves w v k (Some h) clock b up leads at does =
     (subst (λ n. scenes.Does v b (plans.Serves w k h (input.Elect n))) at does))
 
 -- a leader's step
-pub led_none : (w : worlds.World) (k : ℕ) (h : Option worlds.Host) (i : ℕ → ServerInput) (b : Brought) → is_some h ≡ false → b ≡ scenes.shown [] → scenes.Does w b (plans.led_step w k h i)
+pub led_none : (w : worlds.World) (k : ℕ) (h : Option worlds.Host) (i : ℕ → ServerInput) (b : Brought) → is_some h ≡ false → b ≡ scenes.only_shown [] → scenes.Does w b (plans.led_step w k h i)
 led_none w k None i b none is = rw is (shows_none w)
 led_none w k (Some h) i b none is = absurd (cc)
 
@@ -110,7 +110,7 @@ pub may_check : (k nodes : ℕ) (h : Option worlds.Host) (clock : ℕ) → world
 may_check k nodes None clock up leads = absurd (cc)
 may_check k nodes (Some h) clock up leads = (up, leads)
 
-pub may_take : (k nodes : ℕ) (h : Option worlds.Host) (clock : ℕ) (p : Packet) → worlds.up_in h ≡ true → host_plans.IsOther k nodes p.«from» → host_plans.MayServe k nodes h (input.Packet clock p)
+pub may_take : (k nodes : ℕ) (h : Option worlds.Host) (clock : ℕ) (p : Packet) → worlds.up_in h ≡ true → host_plans.IsFromOther k nodes p.«from» → host_plans.MayServe k nodes h (input.Packet clock p)
 may_take k nodes None clock p up other = absurd (cc)
 may_take k nodes (Some h) clock p up other = (up, other)
 
@@ -121,7 +121,7 @@ reach_serves w v k p None clock b at does = does
 reach_serves w v k p (Some h) clock b at does = subst (λ n. scenes.Does v b (plans.Serves w k h (input.Packet n p))) at does
 
 -- a crash and a clock
-pub crash_none : (w : worlds.World) (k : ℕ) (h : Option worlds.Host) (b : Brought) → is_some h ≡ false → b ≡ scenes.shown [] → scenes.Does w b (plans.crashes w k h)
+pub crash_none : (w : worlds.World) (k : ℕ) (h : Option worlds.Host) (b : Brought) → is_some h ≡ false → b ≡ scenes.only_shown [] → scenes.Does w b (plans.crashes w k h)
 crash_none w k None b none is = rw is (shows_none w)
 crash_none w k (Some h) b none is = absurd (cc)
 
@@ -137,21 +137,21 @@ change_same f (y ∷ xs) (suc zero) x at = let same : y ≡ x = cc in ap (λ z. 
 change_same f (y ∷ xs) (suc (suc k)) x at = ap (λ zs. y ∷ zs) (change_same f xs (suc k) x at)
 
 pub crash_falls : (w v : worlds.World) (spent : Bool) (k : ℕ) (h : Option worlds.Host) (b : Brought) → lists.at_place w.hosts k ≡ h → worlds.up_in h ≡ true
-    → v ≡ record w { hosts = positions.change_place (host_plans.fallen_in (open_of w spent) k) w.hosts k } → b ≡ scenes.shown [] → scenes.Does v b (plans.crashes w k h)
+    → v ≡ record w { hosts = positions.change_place (host_plans.fallen_in (open_of w spent) k) w.hosts k } → b ≡ scenes.only_shown [] → scenes.Does v b (plans.crashes w k h)
 crash_falls w v spent k None b at up after is = absurd (cc)
 crash_falls w v spent k (Some h) b at up after is = rw after (rw is (rw up (rw (change_same (host_plans.fallen_in (open_of w spent) k) w.hosts k h at) (record { moved = refl; may = refl }))))
 
-pub clock_none : (w : worlds.World) (k time : ℕ) (h : Option worlds.Host) (b : Brought) → is_some h ≡ false → b ≡ scenes.shown [] → scenes.Does w b (plans.sets_clock w k time h)
+pub clock_none : (w : worlds.World) (k time : ℕ) (h : Option worlds.Host) (b : Brought) → is_some h ≡ false → b ≡ scenes.only_shown [] → scenes.Does w b (plans.sets_clock w k time h)
 clock_none w k time None b none is = rw is (shows_none w)
 clock_none w k time (Some h) b none is = absurd (cc)
 
 pub clock_sets : (w v : worlds.World) (k time : ℕ) (h : Option worlds.Host) (b : Brought) → lists.at_place w.hosts k ≡ h → is_some h ≡ true
-    → v ≡ record w { hosts = positions.change_place (host_plans.with_clock time) w.hosts k } → b ≡ scenes.shown [] → scenes.Does v b (plans.sets_clock w k time h)
+    → v ≡ record w { hosts = positions.change_place (host_plans.with_clock time) w.hosts k } → b ≡ scenes.only_shown [] → scenes.Does v b (plans.sets_clock w k time h)
 clock_sets w v k time None b at there after is = absurd (cc)
 clock_sets w v k time (Some h) b at there after is = rw after (rw is (rw (change_same (host_plans.with_clock time) w.hosts k h at) (record { moved = refl; may = refl })))
 
 -- a start
-pub start_none : (w : worlds.World) (k : ℕ) (h : Option worlds.Host) (b : Brought) → is_some h ≡ false → b ≡ scenes.shown [] → scenes.Does w b (plans.starts w k h)
+pub start_none : (w : worlds.World) (k : ℕ) (h : Option worlds.Host) (b : Brought) → is_some h ≡ false → b ≡ scenes.only_shown [] → scenes.Does w b (plans.starts w k h)
 start_none w k None b none is = rw is (shows_none w)
 start_none w k (Some h) b none is = absurd (cc)
 
@@ -161,13 +161,13 @@ start_up w k (Some h) b up is = rw is (rw up (shows w reason.NodeUp))
 
 -- a step of a node's server
 fine_at : (w : worlds.World) (k : ℕ) (h : worlds.Host) (i : ServerInput)
-    → scenes.moved_with (record w { hosts = (moves.served (host_plans.world_of (open_of w false)) k h i outcome.Fine).world.hosts; bag = bags.with_packets w.bag (server_steps.server_out h.server i).packets })
-    (scenes.served w k (server_steps.server_out h.server i)) ≡ moves.carried (plans.Serves w k h i) outcome.Fine
+    → scenes.moved_with (record w { hosts = (moves.served (host_plans.world_of_hosts (open_of w false)) k h i outcome.Fine).world.hosts; bag = bags.with_packets w.bag (server_steps.server_out h.server i).packets })
+    (scenes.server_served w k (server_steps.server_out h.server i)) ≡ moves.carried (plans.Serves w k h i) outcome.Fine
 fine_at w k h i = rw (with_acts_is w.history (scenes.first_applied w.history (server_steps.server_out h.server i))) refl
 
 pub served_fine : (w v : worlds.World) (spent : Bool) (n : host_plans.OpenHosts) (k : ℕ) (h : Option worlds.Host) (i : ServerInput) (out : ServerOut) (b : Brought)
     → host_plans.ServesAt (open_of w spent) k h i n (serving.Fine out) → v ≡ record w { timeout = n.timeout; hosts = n.hosts; bag = bags.with_packets w.bag out.packets }
-    → b ≡ scenes.served w k out → scenes.Does v b (scenes.serves_at w k h i)
+    → b ≡ scenes.server_served w k out → scenes.Does v b (scenes.serves_at w k h i)
 served_fine w v spent n k None i out b s after is = absurd s
 served_fine w v spent n k (Some h) i out b s after is = rw after (rw is (rw s.given (rw s.after (record { moved = fine_at w k h i; may = refl }))))
 
@@ -178,7 +178,7 @@ served_failed w v spent n k None i saved b s after is = absurd s
 served_failed w v spent n k (Some h) i saved b s after is = rw after (rw is (rw s.after (record { moved = refl; may = s.may })))
 
 pub start_loads : (w v : worlds.World) (spent : Bool) (n : host_plans.OpenHosts) (k : ℕ) (h : Option worlds.Host) (o : StepOutcome) (b : Brought) → worlds.up_in h ≡ false
-    → host_plans.LoadsAt (open_of w spent) k h n o → v ≡ record w { timeout = n.timeout; hosts = n.hosts } → b ≡ scenes.started k o → scenes.Does v b (plans.starts w k h)
+    → host_plans.LoadsAt (open_of w spent) k h n o → v ≡ record w { timeout = n.timeout; hosts = n.hosts } → b ≡ scenes.start_brought k o → scenes.Does v b (plans.starts w k h)
 start_loads w v spent n k None o b down l after is = absurd l
 start_loads w v spent n k (Some h) outcome.Fine b down l after is = absurd (let may : false ≡ true = l.may in cc)
 start_loads w v spent n k (Some h) (outcome.Failed saved) b down l after is = rw after (rw is (rw l.after (rw down (record { moved = refl; may = l.may }))))

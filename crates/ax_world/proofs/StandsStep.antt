@@ -23,7 +23,7 @@ use Rattle.law_headline.proofs.HeadlineRuns.{run_begins, step_stands}
 use Rattle.law_race.specs.LeftOpen as left_open
 use Rattle.law_race.proofs.Groups.{races_are_faithful}
 use Rattle.ax_world.specs.OpenWorlds as open_worlds
-use Rattle.ax_world.specs.Standing as standing
+use Rattle.ax_world.specs.StandingRuns as standing
 
 -- the contents that some stores tell, the hosts' own first
 record ToldBy (hosts : List worlds.Host) (states : List matching.StoreState) : Type 0 where
@@ -47,7 +47,7 @@ told_contents (h ∷ hosts) [] m t = absurd m
 told_contents (h ∷ hosts) (s ∷ states) m t = told_next h hosts s states s.told refl m.0.content t.0 (told_contents hosts states m.1 t.1)
 
 -- what stands by a run keeps its history in the stores that tell what its nodes keep
-stores_keep : (nodes clients timeout : ℕ) (w : open_worlds.OpenWorld) (states : List matching.StoreState) → standing.IsReached nodes clients timeout w
+stores_keep : (nodes clients timeout : ℕ) (w : open_worlds.OpenWorld) (states : List matching.StoreState) → standing.IsReachedRun nodes clients timeout w
     → headlines.RunStandsBy nodes clients timeout w.kept w.world w.transcript → matching.StoresMatch w.world.hosts states → matching.AreTelling states
     → standing.StoresKeep nodes timeout w.world.history states
 stores_keep nodes clients timeout w states reached by match tell =
@@ -75,9 +75,9 @@ may_end timeout session shown history stays =
           (hand_once timeout (left_open.in_own_group k (left_open.left_open session shown) shown) history (stays.in_own k));
     }
 
-stands : (nodes clients timeout : ℕ) (w : open_worlds.OpenWorld) (states : List matching.StoreState) → standing.IsReached nodes clients timeout w
+stands : (nodes clients timeout : ℕ) (w : open_worlds.OpenWorld) (states : List matching.StoreState) → standing.IsReachedRun nodes clients timeout w
     → headlines.RunStandsBy nodes clients timeout w.kept w.world w.transcript → matching.StoresMatch w.world.hosts states → matching.AreTelling states
-    → standing.Stands nodes clients timeout w states
+    → standing.StandsSoFar nodes clients timeout w states
 stands nodes clients timeout w states reached by match tell = record {
   reached = reached;
   faithful = by.faithful;
@@ -89,18 +89,18 @@ stands nodes clients timeout w states reached by match tell = record {
 }
 
 -- before the first step
-pub is_reached : (nodes clients timeout : ℕ) (w : open_worlds.OpenWorld) → 1 ≤ nodes → w ≡ open_worlds.opened nodes clients timeout → standing.IsReached nodes clients timeout w
+pub is_reached : (nodes clients timeout : ℕ) (w : open_worlds.OpenWorld) → 1 ≤ nodes → w ≡ open_worlds.opened nodes clients timeout → standing.IsReachedRun nodes clients timeout w
 is_reached nodes clients timeout w some is = rw is (record { some = some; run = run_begins nodes clients timeout })
 
 stepped_leads : (before : open_worlds.OpenWorld) (k : KeptStep) (states : List matching.StoreState) → moves.may_fare before.world k ≡ true
-    → matching.StoresMatch (open_worlds.stepped before k).world.hosts states → matching.AreTelling states → standing.LeadsOn before (open_worlds.stepped before k) states
+    → matching.StoresMatch (open_worlds.one_step_on before k).world.hosts states → matching.AreTelling states → standing.LeadsToStanding before (open_worlds.one_step_on before k) states
 stepped_leads before k states may match tell nodes clients timeout reached =
     let more = step_stands before.kept before.world before.transcript k may nodes clients timeout reached.run in
-    stands nodes clients timeout (open_worlds.stepped before k) states (record { some = reached.some; run = more.0 }) more.1 match tell
+    stands nodes clients timeout (open_worlds.one_step_on before k) states (record { some = reached.some; run = more.0 }) more.1 match tell
 
-pub leads_on : (before after : open_worlds.OpenWorld) (s : Step) (states : List matching.StoreState) → open_worlds.IsStep before s after
-    → matching.StoresMatch after.world.hosts states → matching.AreTelling states → standing.LeadsOn before after states
+pub leads_on : (before after : open_worlds.OpenWorld) (s : Step) (states : List matching.StoreState) → open_worlds.MakesStep before s after
+    → matching.StoresMatch after.world.hosts states → matching.AreTelling states → standing.LeadsToStanding before after states
 leads_on before after s states is match tell =
     let k : KeptStep = record { step = s; outcome = is.outcome } in
-    subst (λ (w : open_worlds.OpenWorld). standing.LeadsOn before w states) (sym is.same)
+    subst (λ (w : open_worlds.OpenWorld). standing.LeadsToStanding before w states) (sym is.same)
     (stepped_leads before k states is.may (subst (λ (w : open_worlds.OpenWorld). matching.StoresMatch w.world.hosts states) is.same match) tell)

@@ -20,14 +20,14 @@ after_step before s w b = record {
 }
 
 same_step : (before : open_worlds.OpenWorld) (s : Step) (w : worlds.World) (b : Brought) → scenes.Does w b (plans.plan before.world s)
-    → after_step before s w b ≡ open_worlds.stepped before (record { step = s; outcome = b.outcome })
+    → after_step before s w b ≡ open_worlds.one_step_on before (record { step = s; outcome = b.outcome })
 same_step before s w b does =
     let moved : scenes.moved_with w b ≡ moves.moved before.world (record { step = s; outcome = b.outcome }) = does.moved in
     ap (λ h. record { world = record w { history = h }; kept = before.kept ++ record { step = s; outcome = b.outcome } ∷ []; transcript = before.transcript ++ b.items; is_spent = false }) (sym (with_acts_is w.history b.acts))
     ∙ ap (λ m. record { world = m.world; kept = before.kept ++ record { step = s; outcome = b.outcome } ∷ []; transcript = before.transcript ++ m.items; is_spent = false }) moved
 
 pub step_is : (before after : open_worlds.OpenWorld) (s : Step) (w : worlds.World) (b : Brought) → scenes.Does w b (plans.plan before.world s) → after ≡ after_step before s w b
-    → open_worlds.IsStep before s after
+    → open_worlds.MakesStep before s after
 step_is before after s w b does is = record { outcome = b.outcome; may = does.may; same = is ∙ same_step before s w b does }
 
 pub made_is : (before w after : worlds.World) (s : Step) (b : Brought) (kept_before kept_after : List KeptStep) (items_before items_after : List Item)

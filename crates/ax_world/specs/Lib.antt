@@ -1,3 +1,3 @@
 pub mod OpenWorlds
 pub mod Scenes
-pub mod Standing
+pub mod StandingRuns

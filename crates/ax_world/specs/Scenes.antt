@@ -29,12 +29,12 @@ pub record OpenScene : Type 0 where
   pub seats_spent : Bool
 
 -- nothing is left half done
-pub record IsWhole (s : OpenScene) : Type 0 where
+pub record AreWhole (s : OpenScene) : Type 0 where
   pub hosts : s.hosts_spent ≡ false
   pub seats : s.seats_spent ≡ false
 
 -- a further step may be made
-pub record IsReady (s : OpenScene) : Type 0 where
+pub record MayTakeStep (s : OpenScene) : Type 0 where
   pub hosts : s.hosts_spent ≡ false
   pub seats : s.seats_spent ≡ false
   pub room : s.calls < 2 ^ 32
@@ -46,11 +46,11 @@ pub record StaysOpen (before after : OpenScene) : Type 0 where
   pub calls : after.calls ≤ suc before.calls
 
 -- what a step brings that only shows items, and one whose node halts
-abbrev pub shown : List Item → Brought
-shown items = record { items = items; acts = []; outcome = outcome.Fine }
+abbrev pub only_shown : List Item → Brought
+only_shown items = record { items = items; acts = []; outcome = outcome.Fine }
 
 abbrev pub skipped : SkipReason → Brought
-skipped r = shown (item.Skip r ∷ [])
+skipped r = only_shown (item.Skip r ∷ [])
 
 abbrev pub halted : ℕ → ℕ → Brought
 halted k saved = record { items = item.Halted k ∷ []; acts = []; outcome = outcome.Failed saved }
@@ -79,8 +79,8 @@ abbrev pub first_applied : List (ℕ × Act) → ServerOut → List (ℕ × Act)
 first_applied history o = drop (length history - (o.committed - length o.acts)) o.acts
 
 -- what a server's step brings whose store calls succeeded
-abbrev pub served : worlds.World → ℕ → ServerOut → Brought
-served w k o = record { items = moves.server_items w k o; acts = first_applied w.history o; outcome = outcome.Fine }
+abbrev pub server_served : worlds.World → ℕ → ServerOut → Brought
+server_served w k o = record { items = moves.server_items w k o; acts = first_applied w.history o; outcome = outcome.Fine }
 
 -- whether all of a packet arrives, where so many bytes of it do, or all
 abbrev pub is_whole : Option ℕ → (Packet → Bool)
@@ -121,6 +121,6 @@ taken w None = plans.shows_nothing w
 taken w (Some p) = plans.reaches w p p.to
 
 -- what a start brings, by how the store fared
-abbrev pub started : ℕ → StepOutcome → Brought
-started k (outcome.Failed saved) = halted k saved
-started k o = record { items = []; acts = []; outcome = o }
+abbrev pub start_brought : ℕ → StepOutcome → Brought
+start_brought k (outcome.Failed saved) = halted k saved
+start_brought k o = record { items = []; acts = []; outcome = o }

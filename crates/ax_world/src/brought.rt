@@ -15,7 +15,7 @@ pub(crate) struct Brought {
 impl Brought {
     /// Items alone. It takes no memory.
     pub(crate) fn shown(alloc: Global, items: List<Item>) -> Brought
-        ensures { result ≡ scenes.shown items }
+        ensures { result ≡ scenes.only_shown items }
     {
         Brought {
             items,
@@ -26,7 +26,7 @@ impl Brought {
 
     /// Nothing. It takes no memory.
     pub(crate) fn nothing(alloc: Global) -> Brought
-        ensures { result ≡ scenes.shown [] }
+        ensures { result ≡ scenes.only_shown [] }
     {
         Brought::shown(alloc, List::new(alloc))
     }
@@ -55,7 +55,7 @@ impl Brought {
         node: NodeId,
         outcome: StepOutcome,
     ) -> Result<Brought, NoMemory>
-        ensures { IfOk result (λ b. b ≡ scenes.started node outcome) }
+        ensures { IfOk result (λ b. b ≡ scenes.start_brought node outcome) }
     {
         match outcome {
             StepOutcome::Failed { saved } => Brought::halted(alloc, node, saved),

@@ -42,7 +42,7 @@ fn arrived_whole(
 impl Scene {
     /// What comes of the packet with a number, where all of its bytes arrive, or the first so many.
     fn arrives(&mut self, number: u64, bytes: Option<u64>) -> Result<Arrival, NoMemory>
-        requires ready { scenes.IsReady self.old }
+        requires ready { scenes.MayTakeStep self.old }
         ensures arrives { IfOk result (λ a. scenes.ArrivesAs self.old.world number bytes a) }
         ensures same { self.new ≡ self.old }
     {
@@ -73,13 +73,13 @@ impl Scene {
         bytes: Option<u64>,
         filters: &Filters,
     ) -> Result<Brought, NoMemory>
-        requires ready { scenes.IsReady self.old }
-        requires stores { matching.StoresMatch self.old.world.hosts (matching.states_of S.told S.needs_load stores.old.items) }
+        requires ready { scenes.MayTakeStep self.old }
+        requires stores { matching.StoresMatch self.old.world.hosts (matching.store_states_of S.told S.needs_load stores.old.items) }
         ensures does { IfOk result (λ b. scenes.Does self.new.world b (plans.delivers self.old.world number (scenes.is_whole bytes))) }
         ensures open { OnOk result (scenes.StaysOpen self.old self.new) }
         ensures history { self.new.world.history ≡ self.old.world.history }
-        ensures stores { OnOk result (matching.StoresMatch self.new.world.hosts (matching.states_of S.told S.needs_load stores.new.items)) }
-        ensures told { matching.AreTelling (matching.states_of S.told S.needs_load stores.old.items) → matching.AreTelling (matching.states_of S.told S.needs_load stores.new.items) }
+        ensures stores { OnOk result (matching.StoresMatch self.new.world.hosts (matching.store_states_of S.told S.needs_load stores.new.items)) }
+        ensures told { matching.AreTelling (matching.store_states_of S.told S.needs_load stores.old.items) → matching.AreTelling (matching.store_states_of S.told S.needs_load stores.new.items) }
     {
         match self.arrives(number, bytes)? {
             Arrival::Refused(reason) => self.skips(reason),
@@ -97,14 +97,14 @@ impl Scene {
         arrived: Option<Packet>,
         filters: &Filters,
     ) -> Result<Brought, NoMemory>
-        requires ready { scenes.IsReady self.old }
+        requires ready { scenes.MayTakeStep self.old }
         requires reachable { scenes.IsReachableBy self.old.world arrived }
-        requires stores { matching.StoresMatch self.old.world.hosts (matching.states_of S.told S.needs_load stores.old.items) }
+        requires stores { matching.StoresMatch self.old.world.hosts (matching.store_states_of S.told S.needs_load stores.old.items) }
         ensures does { IfOk result (λ b. scenes.Does self.new.world b (scenes.taken self.old.world arrived)) }
         ensures open { OnOk result (scenes.StaysOpen self.old self.new) }
         ensures history { self.new.world.history ≡ self.old.world.history }
-        ensures stores { OnOk result (matching.StoresMatch self.new.world.hosts (matching.states_of S.told S.needs_load stores.new.items)) }
-        ensures told { matching.AreTelling (matching.states_of S.told S.needs_load stores.old.items) → matching.AreTelling (matching.states_of S.told S.needs_load stores.new.items) }
+        ensures stores { OnOk result (matching.StoresMatch self.new.world.hosts (matching.store_states_of S.told S.needs_load stores.new.items)) }
+        ensures told { matching.AreTelling (matching.store_states_of S.told S.needs_load stores.old.items) → matching.AreTelling (matching.store_states_of S.told S.needs_load stores.new.items) }
     {
         match arrived {
             Some(packet) => self.reaches(stores, packet, filters),
@@ -119,14 +119,14 @@ impl Scene {
         packet: Packet,
         filters: &Filters,
     ) -> Result<Brought, NoMemory>
-        requires ready { scenes.IsReady self.old }
+        requires ready { scenes.MayTakeStep self.old }
         requires reachable { scenes.IsReachable self.old.world packet.to }
-        requires stores { matching.StoresMatch self.old.world.hosts (matching.states_of S.told S.needs_load stores.old.items) }
+        requires stores { matching.StoresMatch self.old.world.hosts (matching.store_states_of S.told S.needs_load stores.old.items) }
         ensures does { IfOk result (λ b. scenes.Does self.new.world b (plans.reaches self.old.world packet packet.to)) }
         ensures open { OnOk result (scenes.StaysOpen self.old self.new) }
         ensures history { self.new.world.history ≡ self.old.world.history }
-        ensures stores { OnOk result (matching.StoresMatch self.new.world.hosts (matching.states_of S.told S.needs_load stores.new.items)) }
-        ensures told { matching.AreTelling (matching.states_of S.told S.needs_load stores.old.items) → matching.AreTelling (matching.states_of S.told S.needs_load stores.new.items) }
+        ensures stores { OnOk result (matching.StoresMatch self.new.world.hosts (matching.store_states_of S.told S.needs_load stores.new.items)) }
+        ensures told { matching.AreTelling (matching.store_states_of S.told S.needs_load stores.old.items) → matching.AreTelling (matching.store_states_of S.told S.needs_load stores.new.items) }
     {
         let to = packet.to;
         match to {
@@ -147,7 +147,7 @@ impl Scene {
         from: End,
         filters: &Filters,
     ) -> Result<Brought, NoMemory>
-        requires ready { scenes.IsReady self.old }
+        requires ready { scenes.MayTakeStep self.old }
         ensures does { IfOk result (λ b. scenes.Does self.new.world b (plans.receives_from self.old.world client payload.now from (lists.at_place self.old.world.seats client))) }
         ensures open { OnOk result (scenes.StaysOpen self.old self.new) }
         ensures history { self.new.world.history ≡ self.old.world.history }

@@ -75,11 +75,11 @@ fn load<S: NodeStore>(
     requires known { node ≤ length hosts.old.hosts }
     requires there { is_some (lists.at_place hosts.old.hosts node) ≡ true }
     requires down { worlds.up_in (lists.at_place hosts.old.hosts node) ≡ false }
-    requires stores { matching.StoresMatch hosts.old.hosts (matching.states_of S.told S.needs_load stores.old.items) }
-    ensures loaded { matching.AreTelling (matching.states_of S.told S.needs_load stores.old.items)
+    requires stores { matching.StoresMatch hosts.old.hosts (matching.store_states_of S.told S.needs_load stores.old.items) }
+    ensures loaded { matching.AreTelling (matching.store_states_of S.told S.needs_load stores.old.items)
         → IfOk result (λ o. host_plans.LoadsAt hosts.old node (lists.at_place hosts.old.hosts node) hosts.new o) }
-    ensures stores { OnOk result (matching.StoresMatch hosts.new.hosts (matching.states_of S.told S.needs_load stores.new.items)) }
-    ensures told { matching.AreTelling (matching.states_of S.told S.needs_load stores.old.items) → matching.AreTelling (matching.states_of S.told S.needs_load stores.new.items) }
+    ensures stores { OnOk result (matching.StoresMatch hosts.new.hosts (matching.store_states_of S.told S.needs_load stores.new.items)) }
+    ensures told { matching.AreTelling (matching.store_states_of S.told S.needs_load stores.old.items) → matching.AreTelling (matching.store_states_of S.told S.needs_load stores.new.items) }
     ensures whole { OnOk result (hosts.new.is_spent ≡ false) }
 {
     hosts.load(stores, node)
@@ -88,7 +88,7 @@ fn load<S: NodeStore>(
 impl Scene {
     /// A server's step whose store calls succeeded: its packets are sent.
     fn serves(&mut self, node: NodeId, out: ServerOut) -> Result<Brought, NoMemory>
-        ensures brought { IfOk result (λ b. b ≡ scenes.served self.old.world node out) }
+        ensures brought { IfOk result (λ b. b ≡ scenes.server_served self.old.world node out) }
         ensures after { OnOk result (self.new ≡ record self.old { world = record self.old.world { bag = bags.with_packets self.old.world.bag out.packets } }) }
         ensures history { self.new.world.history ≡ self.old.world.history }
     {
@@ -109,15 +109,15 @@ impl Scene {
         node: NodeId,
         input: &ServerInput,
     ) -> Result<Brought, NoMemory>
-        requires ready { scenes.IsReady self.old }
+        requires ready { scenes.MayTakeStep self.old }
         requires known { node ≤ length self.old.world.hosts }
         requires may { host_plans.MayServe node (length self.old.world.hosts) (lists.at_place self.old.world.hosts node) input.now }
-        requires stores { matching.StoresMatch self.old.world.hosts (matching.states_of S.told S.needs_load stores.old.items) }
+        requires stores { matching.StoresMatch self.old.world.hosts (matching.store_states_of S.told S.needs_load stores.old.items) }
         ensures does { IfOk result (λ b. scenes.Does self.new.world b (scenes.serves_at self.old.world node (lists.at_place self.old.world.hosts node) input.now)) }
         ensures open { OnOk result (scenes.StaysOpen self.old self.new) }
         ensures history { self.new.world.history ≡ self.old.world.history }
-        ensures stores { OnOk result (matching.StoresMatch self.new.world.hosts (matching.states_of S.told S.needs_load stores.new.items)) }
-        ensures told { matching.AreTelling (matching.states_of S.told S.needs_load stores.old.items) → matching.AreTelling (matching.states_of S.told S.needs_load stores.new.items) }
+        ensures stores { OnOk result (matching.StoresMatch self.new.world.hosts (matching.store_states_of S.told S.needs_load stores.new.items)) }
+        ensures told { matching.AreTelling (matching.store_states_of S.told S.needs_load stores.old.items) → matching.AreTelling (matching.store_states_of S.told S.needs_load stores.new.items) }
     {
         match self.hosts.serve(stores, node, input)? {
             Served::Fine { out } => self.serves(node, out),
@@ -134,13 +134,13 @@ impl Scene {
         stores: &mut Vec<S>,
         node: NodeId,
     ) -> Result<Brought, NoMemory>
-        requires ready { scenes.IsReady self.old }
-        requires stores { matching.StoresMatch self.old.world.hosts (matching.states_of S.told S.needs_load stores.old.items) }
+        requires ready { scenes.MayTakeStep self.old }
+        requires stores { matching.StoresMatch self.old.world.hosts (matching.store_states_of S.told S.needs_load stores.old.items) }
         ensures does { IfOk result (λ b. scenes.Does self.new.world b (plans.elects self.old.world node (lists.at_place self.old.world.hosts node))) }
         ensures open { OnOk result (scenes.StaysOpen self.old self.new) }
         ensures history { self.new.world.history ≡ self.old.world.history }
-        ensures stores { OnOk result (matching.StoresMatch self.new.world.hosts (matching.states_of S.told S.needs_load stores.new.items)) }
-        ensures told { matching.AreTelling (matching.states_of S.told S.needs_load stores.old.items) → matching.AreTelling (matching.states_of S.told S.needs_load stores.new.items) }
+        ensures stores { OnOk result (matching.StoresMatch self.new.world.hosts (matching.store_states_of S.told S.needs_load stores.new.items)) }
+        ensures told { matching.AreTelling (matching.store_states_of S.told S.needs_load stores.old.items) → matching.AreTelling (matching.store_states_of S.told S.needs_load stores.new.items) }
     {
         if !self.has_node(node) {
             return Ok(self.shows_nothing());
@@ -162,13 +162,13 @@ impl Scene {
         stores: &mut Vec<S>,
         node: NodeId,
     ) -> Result<Brought, NoMemory>
-        requires ready { scenes.IsReady self.old }
-        requires stores { matching.StoresMatch self.old.world.hosts (matching.states_of S.told S.needs_load stores.old.items) }
+        requires ready { scenes.MayTakeStep self.old }
+        requires stores { matching.StoresMatch self.old.world.hosts (matching.store_states_of S.told S.needs_load stores.old.items) }
         ensures does { IfOk result (λ b. scenes.Does self.new.world b (plans.led_step self.old.world node (lists.at_place self.old.world.hosts node) input.Beat)) }
         ensures open { OnOk result (scenes.StaysOpen self.old self.new) }
         ensures history { self.new.world.history ≡ self.old.world.history }
-        ensures stores { OnOk result (matching.StoresMatch self.new.world.hosts (matching.states_of S.told S.needs_load stores.new.items)) }
-        ensures told { matching.AreTelling (matching.states_of S.told S.needs_load stores.old.items) → matching.AreTelling (matching.states_of S.told S.needs_load stores.new.items) }
+        ensures stores { OnOk result (matching.StoresMatch self.new.world.hosts (matching.store_states_of S.told S.needs_load stores.new.items)) }
+        ensures told { matching.AreTelling (matching.store_states_of S.told S.needs_load stores.old.items) → matching.AreTelling (matching.store_states_of S.told S.needs_load stores.new.items) }
     {
         if !self.has_node(node) {
             return Ok(self.shows_nothing());
@@ -190,13 +190,13 @@ impl Scene {
         stores: &mut Vec<S>,
         node: NodeId,
     ) -> Result<Brought, NoMemory>
-        requires ready { scenes.IsReady self.old }
-        requires stores { matching.StoresMatch self.old.world.hosts (matching.states_of S.told S.needs_load stores.old.items) }
+        requires ready { scenes.MayTakeStep self.old }
+        requires stores { matching.StoresMatch self.old.world.hosts (matching.store_states_of S.told S.needs_load stores.old.items) }
         ensures does { IfOk result (λ b. scenes.Does self.new.world b (plans.led_step self.old.world node (lists.at_place self.old.world.hosts node) input.Check)) }
         ensures open { OnOk result (scenes.StaysOpen self.old self.new) }
         ensures history { self.new.world.history ≡ self.old.world.history }
-        ensures stores { OnOk result (matching.StoresMatch self.new.world.hosts (matching.states_of S.told S.needs_load stores.new.items)) }
-        ensures told { matching.AreTelling (matching.states_of S.told S.needs_load stores.old.items) → matching.AreTelling (matching.states_of S.told S.needs_load stores.new.items) }
+        ensures stores { OnOk result (matching.StoresMatch self.new.world.hosts (matching.store_states_of S.told S.needs_load stores.new.items)) }
+        ensures told { matching.AreTelling (matching.store_states_of S.told S.needs_load stores.old.items) → matching.AreTelling (matching.store_states_of S.told S.needs_load stores.new.items) }
     {
         if !self.has_node(node) {
             return Ok(self.shows_nothing());
@@ -214,7 +214,7 @@ impl Scene {
     #[tactic(auto, using(crate::proofs::Doing::crash_none, crate::proofs::Doing::crash_down, crate::proofs::Doing::crash_falls))]
     /// A node goes down.
     pub(crate) fn crashes(&mut self, node: NodeId) -> Result<Brought, NoMemory>
-        requires ready { scenes.IsReady self.old }
+        requires ready { scenes.MayTakeStep self.old }
         ensures does { IfOk result (λ b. scenes.Does self.new.world b (plans.crashes self.old.world node (lists.at_place self.old.world.hosts node))) }
         ensures open { OnOk result (scenes.StaysOpen self.old self.new) }
         ensures history { self.new.world.history ≡ self.old.world.history }
@@ -233,7 +233,7 @@ impl Scene {
     #[tactic(auto, using(crate::proofs::Doing::clock_none, crate::proofs::Doing::clock_sets))]
     /// A node's clock is set.
     pub(crate) fn sets_clock(&mut self, node: NodeId, time: u64) -> Brought
-        requires ready { scenes.IsReady self.old }
+        requires ready { scenes.MayTakeStep self.old }
         ensures does { scenes.Does self.new.world result (plans.sets_clock self.old.world node time (lists.at_place self.old.world.hosts node)) }
         ensures open { scenes.StaysOpen self.old self.new }
         ensures history { self.new.world.history ≡ self.old.world.history }
@@ -252,14 +252,14 @@ impl Scene {
         stores: &mut Vec<S>,
         node: NodeId,
     ) -> Result<Brought, NoMemory>
-        requires ready { scenes.IsReady self.old }
-        requires stores { matching.StoresMatch self.old.world.hosts (matching.states_of S.told S.needs_load stores.old.items) }
-        ensures does { matching.AreTelling (matching.states_of S.told S.needs_load stores.old.items)
+        requires ready { scenes.MayTakeStep self.old }
+        requires stores { matching.StoresMatch self.old.world.hosts (matching.store_states_of S.told S.needs_load stores.old.items) }
+        ensures does { matching.AreTelling (matching.store_states_of S.told S.needs_load stores.old.items)
             → IfOk result (λ b. scenes.Does self.new.world b (plans.starts self.old.world node (lists.at_place self.old.world.hosts node))) }
         ensures open { OnOk result (scenes.StaysOpen self.old self.new) }
         ensures history { self.new.world.history ≡ self.old.world.history }
-        ensures stores { OnOk result (matching.StoresMatch self.new.world.hosts (matching.states_of S.told S.needs_load stores.new.items)) }
-        ensures told { matching.AreTelling (matching.states_of S.told S.needs_load stores.old.items) → matching.AreTelling (matching.states_of S.told S.needs_load stores.new.items) }
+        ensures stores { OnOk result (matching.StoresMatch self.new.world.hosts (matching.store_states_of S.told S.needs_load stores.new.items)) }
+        ensures told { matching.AreTelling (matching.store_states_of S.told S.needs_load stores.old.items) → matching.AreTelling (matching.store_states_of S.told S.needs_load stores.new.items) }
     {
         if !self.has_node(node) {
             return Ok(self.shows_nothing());
@@ -280,14 +280,14 @@ impl Scene {
         node: NodeId,
         packet: Packet,
     ) -> Result<Brought, NoMemory>
-        requires ready { scenes.IsReady self.old }
+        requires ready { scenes.MayTakeStep self.old }
         requires up { worlds.up_in (lists.at_place self.old.world.hosts node) ≡ true }
-        requires stores { matching.StoresMatch self.old.world.hosts (matching.states_of S.told S.needs_load stores.old.items) }
+        requires stores { matching.StoresMatch self.old.world.hosts (matching.store_states_of S.told S.needs_load stores.old.items) }
         ensures does { IfOk result (λ b. scenes.Does self.new.world b (plans.reaches_node self.old.world node packet (lists.at_place self.old.world.hosts node))) }
         ensures open { OnOk result (scenes.StaysOpen self.old self.new) }
         ensures history { self.new.world.history ≡ self.old.world.history }
-        ensures stores { OnOk result (matching.StoresMatch self.new.world.hosts (matching.states_of S.told S.needs_load stores.new.items)) }
-        ensures told { matching.AreTelling (matching.states_of S.told S.needs_load stores.old.items) → matching.AreTelling (matching.states_of S.told S.needs_load stores.new.items) }
+        ensures stores { OnOk result (matching.StoresMatch self.new.world.hosts (matching.store_states_of S.told S.needs_load stores.new.items)) }
+        ensures told { matching.AreTelling (matching.store_states_of S.told S.needs_load stores.old.items) → matching.AreTelling (matching.store_states_of S.told S.needs_load stores.new.items) }
     {
         if !self.is_other(node, &packet.from) {
             return Err(NoMemory);
@@ -298,7 +298,7 @@ impl Scene {
 
     /// Whether an end is a client, or another node of the cluster than this one.
     fn is_other(&self, node: NodeId, end: &End) -> bool
-        ensures { IsTrue result → host_plans.IsOther node (length self.now.world.hosts) end.now }
+        ensures { IsTrue result → host_plans.IsFromOther node (length self.now.world.hosts) end.now }
     {
         match end {
             End::Node(from) => from.number() != node.number() && self.has_node(*from),

@@ -10,7 +10,7 @@ use ax_types::{End, Item, List, NoMemory};
 impl Scene {
     /// The link between two ends is cut.
     pub(crate) fn cuts(&mut self, one: End, other: End) -> Brought
-        requires ready { scenes.IsReady self.old }
+        requires ready { scenes.MayTakeStep self.old }
         ensures does { scenes.Does self.new.world result (plans.plan self.old.world (steps.Cut one other)) }
         ensures open { scenes.StaysOpen self.old self.new }
         ensures history { self.new.world.history ≡ self.old.world.history }
@@ -22,7 +22,7 @@ impl Scene {
 
     /// The link between two ends is joined.
     pub(crate) fn joins(&mut self, one: End, other: End) -> Brought
-        requires ready { scenes.IsReady self.old }
+        requires ready { scenes.MayTakeStep self.old }
         ensures does { scenes.Does self.new.world result (plans.plan self.old.world (steps.Join one other)) }
         ensures open { scenes.StaysOpen self.old self.new }
         ensures history { self.new.world.history ≡ self.old.world.history }
@@ -35,7 +35,7 @@ impl Scene {
     #[tactic(auto, using(crate::proofs::Delivered::drop_refused, crate::proofs::Delivered::drop_done))]
     /// A packet is dropped.
     pub(crate) fn drops(&mut self, number: u64) -> Result<Brought, NoMemory>
-        requires ready { scenes.IsReady self.old }
+        requires ready { scenes.MayTakeStep self.old }
         ensures does { IfOk result (λ b. scenes.Does self.new.world b (plans.plan self.old.world (steps.Drop number))) }
         ensures open { OnOk result (scenes.StaysOpen self.old self.new) }
         ensures history { self.new.world.history ≡ self.old.world.history }

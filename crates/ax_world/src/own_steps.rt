@@ -16,7 +16,7 @@ use world_seats::SeatStep;
 impl Scene {
     /// What a client's step sends goes into the network.
     fn client_served(&mut self, step: SeatStep) -> Result<Brought, NoMemory>
-        ensures brought { IfOk result (λ b. b ≡ scenes.shown step.items) }
+        ensures brought { IfOk result (λ b. b ≡ scenes.only_shown step.items) }
         ensures after { OnOk result (self.new ≡ record self.old { world = record self.old.world { bag = bags.with_packets self.old.world.bag step.packets } }) }
         ensures history { self.new.world.history ≡ self.old.world.history }
         ensures hosts { self.new.world.hosts ≡ self.old.world.hosts }
@@ -28,7 +28,7 @@ impl Scene {
     #[tactic(auto, using(crate::proofs::Lifted::asks_none, crate::proofs::Lifted::asks_some))]
     /// A client opens a session at a node.
     pub(crate) fn opens(&mut self, client: ClientId, node: NodeId) -> Result<Brought, NoMemory>
-        requires ready { scenes.IsReady self.old }
+        requires ready { scenes.MayTakeStep self.old }
         ensures does { IfOk result (λ b. scenes.Does self.new.world b (plans.plan self.old.world (steps.Open client node))) }
         ensures open { OnOk result (scenes.StaysOpen self.old self.new) }
         ensures history { self.new.world.history ≡ self.old.world.history }
@@ -44,7 +44,7 @@ impl Scene {
     #[tactic(auto, using(crate::proofs::Lifted::asks_none, crate::proofs::Lifted::asks_some))]
     /// A client goes on with another node.
     pub(crate) fn switches(&mut self, client: ClientId, node: NodeId) -> Result<Brought, NoMemory>
-        requires ready { scenes.IsReady self.old }
+        requires ready { scenes.MayTakeStep self.old }
         ensures does { IfOk result (λ b. scenes.Does self.new.world b (plans.plan self.old.world (steps.Switch client node))) }
         ensures open { OnOk result (scenes.StaysOpen self.old self.new) }
         ensures history { self.new.world.history ≡ self.old.world.history }
@@ -60,7 +60,7 @@ impl Scene {
     #[tactic(auto, using(crate::proofs::Lifted::asks_none, crate::proofs::Lifted::asks_some))]
     /// A client sends again what may have been lost.
     pub(crate) fn resends(&mut self, client: ClientId) -> Result<Brought, NoMemory>
-        requires ready { scenes.IsReady self.old }
+        requires ready { scenes.MayTakeStep self.old }
         ensures does { IfOk result (λ b. scenes.Does self.new.world b (plans.plan self.old.world (steps.Resend client))) }
         ensures open { OnOk result (scenes.StaysOpen self.old self.new) }
         ensures history { self.new.world.history ≡ self.old.world.history }
@@ -76,7 +76,7 @@ impl Scene {
     #[tactic(auto, using(crate::proofs::Lifted::asks_none, crate::proofs::Lifted::asks_some))]
     /// A client gives a sign of life.
     pub(crate) fn keeps(&mut self, client: ClientId) -> Result<Brought, NoMemory>
-        requires ready { scenes.IsReady self.old }
+        requires ready { scenes.MayTakeStep self.old }
         ensures does { IfOk result (λ b. scenes.Does self.new.world b (plans.plan self.old.world (steps.Keep client))) }
         ensures open { OnOk result (scenes.StaysOpen self.old self.new) }
         ensures history { self.new.world.history ≡ self.old.world.history }
@@ -92,7 +92,7 @@ impl Scene {
     #[tactic(auto, using(crate::proofs::Lifted::asks_none, crate::proofs::Lifted::asks_some))]
     /// A client closes its session.
     pub(crate) fn closes(&mut self, client: ClientId) -> Result<Brought, NoMemory>
-        requires ready { scenes.IsReady self.old }
+        requires ready { scenes.MayTakeStep self.old }
         ensures does { IfOk result (λ b. scenes.Does self.new.world b (plans.plan self.old.world (steps.Close client))) }
         ensures open { OnOk result (scenes.StaysOpen self.old self.new) }
         ensures history { self.new.world.history ≡ self.old.world.history }
@@ -108,7 +108,7 @@ impl Scene {
     #[tactic(auto, using(crate::proofs::Lifted::watches_none, crate::proofs::Lifted::watches_some))]
     /// A watch is set at a client, once.
     pub(crate) fn watches(&mut self, client: ClientId, kind: WatchKind) -> Result<Brought, NoMemory>
-        requires ready { scenes.IsReady self.old }
+        requires ready { scenes.MayTakeStep self.old }
         ensures does { IfOk result (λ b. scenes.Does self.new.world b (plans.plan self.old.world (steps.Watch client kind))) }
         ensures open { OnOk result (scenes.StaysOpen self.old self.new) }
         ensures history { self.new.world.history ≡ self.old.world.history }
@@ -129,7 +129,7 @@ impl Scene {
         name: &Name,
         op: &Op,
     ) -> Result<Brought, NoMemory>
-        requires ready { scenes.IsReady self.old }
+        requires ready { scenes.MayTakeStep self.old }
         ensures does { IfOk result (λ b. scenes.Does self.new.world b (plans.plan self.old.world (steps.Call client name.now op.now))) }
         ensures open { OnOk result (scenes.StaysOpen self.old self.new) }
         ensures history { self.new.world.history ≡ self.old.world.history }
@@ -151,7 +151,7 @@ impl Scene {
         name: &Name,
         query: &Query,
     ) -> Result<Brought, NoMemory>
-        requires ready { scenes.IsReady self.old }
+        requires ready { scenes.MayTakeStep self.old }
         ensures does { IfOk result (λ b. scenes.Does self.new.world b (plans.plan self.old.world (steps.Query client level name.now query.now))) }
         ensures open { OnOk result (scenes.StaysOpen self.old self.new) }
         ensures history { self.new.world.history ≡ self.old.world.history }
@@ -173,7 +173,7 @@ impl Scene {
         payload: &Payload,
         filters: &Filters,
     ) -> Result<Brought, NoMemory>
-        requires ready { scenes.IsReady self.old }
+        requires ready { scenes.MayTakeStep self.old }
         ensures does { IfOk result (λ b. scenes.Does self.new.world b (plans.receives_from self.old.world client payload.now (end.Node from) (lists.at_place self.old.world.seats client))) }
         ensures open { OnOk result (scenes.StaysOpen self.old self.new) }
         ensures history { self.new.world.history ≡ self.old.world.history }

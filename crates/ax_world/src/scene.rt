@@ -107,7 +107,7 @@ impl Scene {
 
     /// A step that shows nothing.
     pub(crate) fn shows_nothing(&self) -> Brought
-        ensures { result ≡ scenes.shown [] }
+        ensures { result ≡ scenes.only_shown [] }
     {
         Brought::nothing(self.alloc)
     }
@@ -119,14 +119,14 @@ impl Scene {
         step: &Step,
         filters: &Filters,
     ) -> Result<Brought, NoMemory>
-        requires ready { scenes.IsReady self.old }
-        requires stores { matching.StoresMatch self.old.world.hosts (matching.states_of S.told S.needs_load stores.old.items) }
-        ensures does { matching.AreTelling (matching.states_of S.told S.needs_load stores.old.items)
+        requires ready { scenes.MayTakeStep self.old }
+        requires stores { matching.StoresMatch self.old.world.hosts (matching.store_states_of S.told S.needs_load stores.old.items) }
+        ensures does { matching.AreTelling (matching.store_states_of S.told S.needs_load stores.old.items)
             → IfOk result (λ b. scenes.Does self.new.world b (plans.plan self.old.world step.now)) }
         ensures open { OnOk result (scenes.StaysOpen self.old self.new) }
         ensures history { self.new.world.history ≡ self.old.world.history }
-        ensures stores { OnOk result (matching.StoresMatch self.new.world.hosts (matching.states_of S.told S.needs_load stores.new.items)) }
-        ensures told { matching.AreTelling (matching.states_of S.told S.needs_load stores.old.items) → matching.AreTelling (matching.states_of S.told S.needs_load stores.new.items) }
+        ensures stores { OnOk result (matching.StoresMatch self.new.world.hosts (matching.store_states_of S.told S.needs_load stores.new.items)) }
+        ensures told { matching.AreTelling (matching.store_states_of S.told S.needs_load stores.old.items) → matching.AreTelling (matching.store_states_of S.told S.needs_load stores.new.items) }
     {
         match step {
             Step::Elect { node } => self.elects(stores, *node),

@@ -5,7 +5,7 @@ ghost use Rattle.spec_world.specs.Worlds as worlds;
 ghost use Rattle.world_hosts.specs.StoresMatch as matching;
 ghost use Rattle.ax_world.specs.OpenWorlds as open_worlds;
 ghost use Rattle.ax_world.specs.Scenes as scenes;
-ghost use Rattle.ax_world.specs.Standing as standing;
+ghost use Rattle.ax_world.specs.StandingRuns as standing;
 
 use crate::brought::Brought;
 use crate::scene::Scene;
@@ -33,7 +33,7 @@ impl Model for World {
 
     ghost view = { λ a. record { world = a.scene.world; kept = a.kept.items; transcript = a.transcript.items; is_spent = a.is_spent } };
 
-    ghost invariant = { λ a. a.is_spent ≡ false → open_worlds.IsSound a.scene a.kept.items };
+    ghost invariant = { λ a. a.is_spent ≡ false → open_worlds.IsSoundRun a.scene a.kept.items };
 }
 
 /// Items are put behind a list that has room for them.
@@ -104,14 +104,14 @@ fn make<S: NodeStore>(
     step: &Step,
     filters: &Filters,
 ) -> Result<(), NoMemory>
-    requires ready { scenes.IsReady scene.old }
-    requires stores { matching.StoresMatch scene.old.world.hosts (matching.states_of S.told S.needs_load stores.old.items) }
-    ensures made { matching.AreTelling (matching.states_of S.told S.needs_load stores.old.items)
+    requires ready { scenes.MayTakeStep scene.old }
+    requires stores { matching.StoresMatch scene.old.world.hosts (matching.store_states_of S.told S.needs_load stores.old.items) }
+    ensures made { matching.AreTelling (matching.store_states_of S.told S.needs_load stores.old.items)
         → OnOk result (open_worlds.IsMade scene.old.world step.now scene.new.world kept.old.items kept.new.items transcript.old.items transcript.new.items) }
     ensures open { OnOk result (scenes.StaysOpen scene.old scene.new) }
     ensures grows { OnOk result (length kept.new.items ≡ suc (length kept.old.items)) }
-    ensures stores { OnOk result (matching.StoresMatch scene.new.world.hosts (matching.states_of S.told S.needs_load stores.new.items)) }
-    ensures told { matching.AreTelling (matching.states_of S.told S.needs_load stores.old.items) → matching.AreTelling (matching.states_of S.told S.needs_load stores.new.items) }
+    ensures stores { OnOk result (matching.StoresMatch scene.new.world.hosts (matching.store_states_of S.told S.needs_load stores.new.items)) }
+    ensures told { matching.AreTelling (matching.store_states_of S.told S.needs_load stores.old.items) → matching.AreTelling (matching.store_states_of S.told S.needs_load stores.new.items) }
     ensures same_history { OnErr result (scene.new.world.history ≡ scene.old.world.history) }
     ensures same_kept { OnErr result (kept.new.items ≡ kept.old.items) }
     ensures same_transcript { OnErr result (transcript.new.items ≡ transcript.old.items) }
@@ -132,7 +132,7 @@ impl World {
         requires low { 1 ≤ timeout }
         requires high { timeout ≤ MAX_TIMEOUT }
         ensures opened { IfOk result (λ world. world ≡ open_worlds.opened nodes clients timeout) }
-        ensures reached { IfOk result (λ world. standing.IsReached nodes clients timeout world) }
+        ensures reached { IfOk result (λ world. standing.IsReachedRun nodes clients timeout world) }
     {
         Ok(World {
             scene: Scene::new(alloc, nodes, clients, timeout)?,
@@ -153,16 +153,16 @@ impl World {
     ) -> Result<(), NoMemory>
         requires whole { self.old.is_spent ≡ false }
         requires room { length self.old.kept < MAX_STEPS }
-        requires stores { matching.StoresMatch self.old.world.hosts (matching.states_of S.told S.needs_load stores.old.items) }
-        ensures made { matching.AreTelling (matching.states_of S.told S.needs_load stores.old.items) → OnOk result (open_worlds.IsStep self.old step.now self.new) }
+        requires stores { matching.StoresMatch self.old.world.hosts (matching.store_states_of S.told S.needs_load stores.old.items) }
+        ensures made { matching.AreTelling (matching.store_states_of S.told S.needs_load stores.old.items) → OnOk result (open_worlds.MakesStep self.old step.now self.new) }
         // The headline after each step: where steps led to this run from empty stores, they lead on to one whose transcript is faithful
         // to its history and hands out once, and whose stores keep that history.
-        ensures stands { matching.AreTelling (matching.states_of S.told S.needs_load stores.old.items)
-            → OnOk result (standing.LeadsOn self.old self.new (matching.states_of S.told S.needs_load stores.new.items)) }
+        ensures stands { matching.AreTelling (matching.store_states_of S.told S.needs_load stores.old.items)
+            → OnOk result (standing.LeadsToStanding self.old self.new (matching.store_states_of S.told S.needs_load stores.new.items)) }
         ensures whole { OnOk result (self.new.is_spent ≡ false) }
         ensures grows { OnOk result (length self.new.kept ≡ suc (length self.old.kept)) }
-        ensures stores { OnOk result (matching.StoresMatch self.new.world.hosts (matching.states_of S.told S.needs_load stores.new.items)) }
-        ensures told { matching.AreTelling (matching.states_of S.told S.needs_load stores.old.items) → matching.AreTelling (matching.states_of S.told S.needs_load stores.new.items) }
+        ensures stores { OnOk result (matching.StoresMatch self.new.world.hosts (matching.store_states_of S.told S.needs_load stores.new.items)) }
+        ensures told { matching.AreTelling (matching.store_states_of S.told S.needs_load stores.old.items) → matching.AreTelling (matching.store_states_of S.told S.needs_load stores.new.items) }
         ensures err { OnErr result (open_worlds.StaysShown self.old self.new) }
     {
         self.is_spent = true;

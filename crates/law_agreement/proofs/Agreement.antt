@@ -11,10 +11,10 @@ use Rattle.spec_transitions.specs.Systems as systems
 use Rattle.spec_transitions.specs.Transitions as transitions
 use Rattle.spec_past.specs.Matching as matchings
 use Rattle.spec_past.specs.Past as pasts
-use Rattle.spec_past.proofs.Logs.{agree_back, agree_on, agree_less, agree_time, le_or_lt}
-use Rattle.spec_past.proofs.Polls.{one_leader}
-use Rattle.spec_past.proofs.Agreement.{node_agrees, logs_agree, times_rise, leader_holds, kept_by, newest_done}
-use Rattle.spec_past.proofs.Later.{run_committed}
+use Rattle.law_past.proofs.Logs.{agree_back, agree_on, agree_less, agree_time, le_or_lt}
+use Rattle.law_past.proofs.Polls.{one_leader}
+use Rattle.law_past.proofs.Agreement.{node_agrees, logs_agree, times_rise, leader_holds, kept_by, newest_done}
+use Rattle.law_past.proofs.Later.{run_committed}
 use Rattle.law_agreement.specs.Pasts as agreement_pasts
 use Rattle.spec_cluster.proofs.Joined.{all_happened-append}
 use Rattle.law_refinement.proofs.Steps.{run_executes, steps_execute}

@@ -16,8 +16,8 @@ use Rattle.spec_past.specs.Polls as polls
 use Rattle.spec_past.specs.Past as pasts
 use Rattle.spec_past.specs.PastMoves as past_moves
 use Rattle.spec_past.specs.Later as laters
-use Rattle.spec_past.proofs.Polls.{same_or, put_same, put_other}
-use Rattle.spec_past.proofs.Later.{move_later, later_self, run_later}
+use Rattle.law_past.proofs.Polls.{same_or, put_same, put_other}
+use Rattle.law_past.proofs.Later.{move_later, later_self, run_later}
 use Rattle.law_agreement.specs.Pasts as agreement_pasts
 use Rattle.law_agreement.proofs.Tests.{equal, at_most, below, both, either, is_below, is_equal, is_unequal}
 use Rattle.law_agreement.proofs.Members.{place_within}

@@ -18,9 +18,9 @@ use Rattle.spec_past.specs.Matching as matchings
 use Rattle.spec_past.specs.Polls as polls
 use Rattle.spec_past.specs.Past as pasts
 use Rattle.spec_past.specs.Later as laters
-use Rattle.spec_past.proofs.Logs.{agree_term, agree_on, agree_less}
-use Rattle.spec_past.proofs.Polls.{put_same, put_other, same_or}
-use Rattle.spec_past.proofs.Later.{quorum_later}
+use Rattle.law_past.proofs.Logs.{agree_term, agree_on, agree_less}
+use Rattle.law_past.proofs.Polls.{put_same, put_other, same_or}
+use Rattle.law_past.proofs.Later.{quorum_later}
 use Rattle.law_agreement.specs.Pasts as agreement_pasts
 use Rattle.law_agreement.proofs.Members.{changing, changed_here, none_some}
 use Rattle.law_agreement.proofs.Slices.{slice_grows}

@@ -14,9 +14,9 @@ use Rattle.spec_past.specs.Matching as matchings
 use Rattle.spec_past.specs.Past as pasts
 use Rattle.spec_past.specs.PastMoves as past_moves
 use Rattle.spec_past.specs.Later as laters
-use Rattle.spec_past.proofs.Logs.{agree_back, agree_on, agree_less, take_less}
-use Rattle.spec_past.proofs.Later.{move_later, later_self, same_later, quorum_later}
-use Rattle.spec_past.proofs.Commits.{grown, own_log}
+use Rattle.law_past.proofs.Logs.{agree_back, agree_on, agree_less, take_less}
+use Rattle.law_past.proofs.Later.{move_later, later_self, same_later, quorum_later}
+use Rattle.law_past.proofs.Commits.{grown, own_log}
 use Rattle.law_agreement.specs.Pasts as agreement_pasts
 use Rattle.law_agreement.proofs.Tests.{equal, below, not_below, at_most, both, is_at_most, is_below}
 use Rattle.law_agreement.proofs.Members.{some_same, none_some, place_within}

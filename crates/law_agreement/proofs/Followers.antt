@@ -15,9 +15,9 @@ use Rattle.spec_transitions.specs.Transitions as transitions
 use Rattle.spec_past.specs.Matching as matchings
 use Rattle.spec_past.specs.Past as pasts
 use Rattle.spec_past.specs.PastMoves as past_moves
-use Rattle.spec_past.proofs.Logs.{agree_less}
-use Rattle.spec_past.proofs.Later.{move_later, later_self}
-use Rattle.spec_past.proofs.Agreement.{meets}
+use Rattle.law_past.proofs.Logs.{agree_less}
+use Rattle.law_past.proofs.Later.{move_later, later_self}
+use Rattle.law_past.proofs.Agreement.{meets}
 use Rattle.law_agreement.specs.Pasts as agreement_pasts
 use Rattle.law_agreement.proofs.Tests.{is_not_below, below, not_below, off}
 use Rattle.law_agreement.proofs.Changes.{nothing_changes, log_put, commit_put, member_changes}

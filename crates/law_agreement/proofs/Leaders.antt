@@ -22,9 +22,9 @@ use Rattle.spec_past.specs.Polls as polls
 use Rattle.spec_past.specs.Past as pasts
 use Rattle.spec_past.specs.PastMoves as past_moves
 use Rattle.spec_past.specs.Later as laters
-use Rattle.spec_past.proofs.Polls.{put_same, put_other, put2_same, first_to_lead}
-use Rattle.spec_past.proofs.Growth.{length_longer, time_of_longer}
-use Rattle.spec_past.proofs.Later.{move_later, later_self, run_later}
+use Rattle.law_past.proofs.Polls.{put_same, put_other, put2_same, first_to_lead}
+use Rattle.law_past.proofs.Growth.{length_longer, time_of_longer}
+use Rattle.law_past.proofs.Later.{move_later, later_self, run_later}
 use Rattle.law_agreement.specs.Pasts as agreement_pasts
 use Rattle.law_agreement.proofs.Tests.{equal, below, at_most, both, off}
 use Rattle.law_agreement.proofs.Members.{some_same, none_some}

@@ -4,7 +4,7 @@ use Rattle.std.specs.Prelude.{◌≢◌, Option, Some, None, option_map}
 use Rattle.ax_types.specs.Places as ax_types_lists
 use Rattle.spec_raft.specs.Positions as lists
 use Rattle.spec_raft.proofs.Placing.{at_place-changed, at_place-others}
-use Rattle.spec_past.proofs.Polls.{same_or}
+use Rattle.law_past.proofs.Polls.{same_or}
 
 abbrev or_else : {X : Type 0} → X → Option X → X
 or_else d None = d

@@ -15,8 +15,8 @@ use Rattle.spec_transitions.specs.Transitions as transitions
 use Rattle.spec_past.specs.Past as pasts
 use Rattle.spec_past.specs.PastMoves as past_moves
 use Rattle.spec_past.specs.Later as laters
-use Rattle.spec_past.proofs.Polls.{put_same, put2_same}
-use Rattle.spec_past.proofs.Later.{move_later}
+use Rattle.law_past.proofs.Polls.{put_same, put2_same}
+use Rattle.law_past.proofs.Later.{move_later}
 use Rattle.law_agreement.specs.Pasts as agreement_pasts
 use Rattle.law_agreement.proofs.Tests.{at_most, above}
 use Rattle.law_agreement.proofs.Slices.{take_drop}

@@ -5,8 +5,8 @@ use Rattle.std.proofs.lemmas.List.{take_all}
 use Rattle.ax_types.specs.declared.entries.Entry.{Entry}
 use Rattle.spec_raft.specs.Log as logs
 use Rattle.spec_past.specs.Matching as matchings
-use Rattle.spec_past.proofs.Logs.{le_or_lt}
-use Rattle.spec_past.proofs.Growth.{longer_by}
+use Rattle.law_past.proofs.Logs.{le_or_lt}
+use Rattle.law_past.proofs.Growth.{longer_by}
 use Rattle.law_agreement.specs.Pasts as pasts
 use Rattle.law_agreement.proofs.Members.{some_same, none_some}
 use Rattle.law_agreement.proofs.Tests.{equal, unequal, at_most, either, both}

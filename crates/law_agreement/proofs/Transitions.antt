@@ -11,7 +11,7 @@ use Rattle.spec_transitions.specs.Systems as systems
 use Rattle.spec_transitions.specs.Transitions as transitions
 use Rattle.spec_past.specs.Past as pasts
 use Rattle.spec_past.specs.PastMoves as past_moves
-use Rattle.spec_past.proofs.Agreement.{run_sound, beginning_sound}
+use Rattle.law_past.proofs.Agreement.{run_sound, beginning_sound}
 use Rattle.law_agreement.specs.Pasts as agreement_pasts
 use Rattle.law_agreement.proofs.Members.{some_same, none_some}
 use Rattle.law_agreement.proofs.Ballots.{Stays, up, raise_stays, campaign_stays, grant_stays, count_stays, follow_stays, fall_stays}

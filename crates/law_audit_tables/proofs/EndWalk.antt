@@ -41,12 +41,12 @@ filtered : {A B : Type 0} (f : A → B) (p : A → Bool) (q : B → Bool) → ((
 filtered f p q h [] = refl
 filtered f p q h (x ∷ xs) = kept_by f x (filter p xs) (filter q (map f xs)) (p x) (q (f x)) (q (f x)) (h x) refl (filtered f p q h xs)
 
-left_open : (s : ℕ) (above : List Item) (c : end_walk.Course) → Describes s above c → map call_of (session_conditions.open_calls s above) ≡ end_walk.unanswered c
+left_open : (s : ℕ) (above : List Item) (c : end_walk.Course) → Describes s above c → map call_of (session_conditions.open_calls s above) ≡ end_walk.calls_left c
 left_open s above c d =
-    filtered call_of (λ w. not (list_any (transcripts.is_outcome s w.0) (reverse above))) (end_walk.is_unanswered c.outcomes) (λ w. ap not (d.outcomes w.0)) (transcripts.calls s (reverse above))
-    ∙ ap (filter (end_walk.is_unanswered c.outcomes)) d.calls
+    filtered call_of (λ w. not (list_any (transcripts.is_outcome s w.0) (reverse above))) (end_walk.has_no_outcome c.outcomes) (λ w. ap not (d.outcomes w.0)) (transcripts.calls s (reverse above))
+    ∙ ap (filter (end_walk.has_no_outcome c.outcomes)) d.calls
 
-none_open : (ws : List (ℕ × WindowCall)) → nat_eq (length ws) 0 ≡ end_walk.is_none (map call_of ws)
+none_open : (ws : List (ℕ × WindowCall)) → nat_eq (length ws) 0 ≡ end_walk.are_no_calls (map call_of ws)
 none_open [] = refl
 none_open (w ∷ ws) = grind (arith, nat_tests)
 
@@ -116,8 +116,8 @@ quiet s x above c o e w n d = next s x above c c false false [] None o e w n d r
 
 -- an outcome
 answered : (s m : ℕ) (x : Item) (above : List Item) (c : end_walk.Course) → right.is_opened s x ≡ false → outcome_order.is_ended s x ≡ false → transcripts.called_by s x ≡ []
-    → transcripts.outcome_of s x ≡ Some m → Describes s above c → Describes s (x ∷ above) (end_walk.with_outcome c m)
-answered s m x above c o e w n d = next s x above c (end_walk.with_outcome c m) false false [] (Some m) o e w n d refl refl (append-nil c.calls) refl
+    → transcripts.outcome_of s x ≡ Some m → Describes s above c → Describes s (x ∷ above) (end_walk.course_with_outcome c m)
+answered s m x above c o e w n d = next s x above c (end_walk.course_with_outcome c m) false false [] (Some m) o e w n d refl refl (append-nil c.calls) refl
 
 -- ---- steps of the walk
 
@@ -140,7 +140,7 @@ stood true f t e i a p q r = r ∙ sym (ap₂ (λ x y. (x && e) && (y && a)) p q
 stood false f t e i a p q r = sym (ap (λ x. (x && e) && (i && a)) p)
 
 -- an item of another session, or of none
-other : (h : histories.History) (s : ℕ) (above : List Item) (c : end_walk.Course) (x : Item) (items : List Item) → end_walk.is_own s x ≡ false
+other : (h : histories.History) (s : ℕ) (above : List Item) (c : end_walk.Course) (x : Item) (items : List Item) → end_walk.is_of_course s x ≡ false
     → session_conditions.is_in_session h s above x ≡ true → session_conditions.is_ending s 0 above items x ≡ true → session_conditions.left_below s 0 above x ≡ 0
     → Runs h s (x ∷ above) c [] items → by_expected h s c x items [] ≡ conditions h s above 0 (x ∷ items)
 other h s above c x items o t i l r =
@@ -149,7 +149,7 @@ other h s above c x items o t i l r =
     ∙ ap (λ n. item_conditions.each_below (session_conditions.is_in_session h s) (x ∷ above) items && session_conditions.are_ends s n (x ∷ above) items) l)
 
 -- an item of the session that is no end
-stands : (h : histories.History) (s : ℕ) (above : List Item) (c : end_walk.Course) (x : Item) (items : List Item) → end_walk.is_own s x ≡ true
+stands : (h : histories.History) (s : ℕ) (above : List Item) (c : end_walk.Course) (x : Item) (items : List Item) → end_walk.is_of_course s x ≡ true
     → session_conditions.is_in_session h s above x ≡ end_walk.may_stand h s c x → session_conditions.is_ending s 0 above items x ≡ true → session_conditions.left_below s 0 above x ≡ 0
     → Runs h s (x ∷ above) (end_walk.course_with c x) [] items → by_expected h s c x items [] ≡ conditions h s above 0 (x ∷ items)
 stands h s above c x items o t i l r =
@@ -159,7 +159,7 @@ stands h s above c x items o t i l r =
     (session_conditions.are_ends s (session_conditions.left_below s 0 above x) (x ∷ above) items) t i
     (r ∙ ap (λ n. item_conditions.each_below (session_conditions.is_in_session h s) (x ∷ above) items && session_conditions.are_ends s n (x ∷ above) items) (sym l))
 
-open_now : (s : ℕ) (above : List Item) (c : end_walk.Course) → Describes s above c → session_conditions.is_open_for s above ≡ end_walk.is_open c
+open_now : (s : ℕ) (above : List Item) (c : end_walk.Course) → Describes s above c → session_conditions.is_open_for s above ≡ end_walk.course_is_open c
 open_now s above c d = ap₂ (λ a b. a && not b) d.opened d.ended
 
 -- Doubt or Lost where none is expected
@@ -232,7 +232,7 @@ expected_next h s above c w ws x items d below_too = expected x
         && (q && session_conditions.are_ends s (session_conditions.left_below s (suc (length ws)) above y) (y ∷ above) items))) i ending
         ∙ ap (λ m. session_conditions.are_doubted s ws items && (item_conditions.each_below (session_conditions.is_in_session h s) (y ∷ above) items && session_conditions.are_ends s m (y ∷ above) items)) left)
 
-    expected : (y : Item) → (end_walk.is_doubted s (call_of w) y && end_walk.run_course h s k items)
+    expected : (y : Item) → (end_walk.is_told_open s (call_of w) y && end_walk.run_course h s k items)
         ≡ ((session_conditions.is_doubted s w y && session_conditions.are_doubted s ws items) && conditions h s above (suc (length ws)) (y ∷ items))
     expected (item.Doubt t n) = due t n (item.Doubt t n) (session_conditions.is_doubted s w (item.Doubt t n)) refl (first_two (nat_eq s t) (nat_eq w.0 n) (transcripts.is_command w.1)) refl refl refl refl refl refl refl
     expected (item.Lost t n) = due t n (item.Lost t n) (session_conditions.is_doubted s w (item.Lost t n)) refl (first_two (nat_eq s t) (nat_eq w.0 n) (not (transcripts.is_command w.1))) refl refl refl refl refl refl refl
@@ -250,8 +250,8 @@ free_next h s above c x items e d below_too = free x
         y = item.Opened t cl
 
         go : (b : Bool) → nat_eq s t ≡ b → by_expected h s c y items [] ≡ conditions h s above 0 (y ∷ items)
-        go true f = stands h s above c y items f refl refl refl (below_too (y ∷ above) (end_walk.with_opening c) [] e
-            (next s y above c (end_walk.with_opening c) true false [] None f refl refl refl d refl refl (append-nil c.calls) refl))
+        go true f = stands h s above c y items f refl refl refl (below_too (y ∷ above) (end_walk.course_with_opening c) [] e
+            (next s y above c (end_walk.course_with_opening c) true false [] None f refl refl refl d refl refl (append-nil c.calls) refl))
         go false f = other h s above c y items f refl refl refl (below_too (y ∷ above) c [] e (quiet s y above c f refl refl refl d))
     free (item.Called t n call) = go (nat_eq s t) refl
       where
@@ -260,8 +260,8 @@ free_next h s above c x items e d below_too = free x
 
         go : (b : Bool) → nat_eq s t ≡ b → by_expected h s c y items [] ≡ conditions h s above 0 (y ∷ items)
         go true f = stands h s above c y items f (ap (λ b. if b then session_conditions.is_open_for s above else true) f ∙ open_now s above c d) refl refl
-            (below_too (y ∷ above) (end_walk.with_call c (n, transcripts.is_command call)) [] e
-            (next s y above c (end_walk.with_call c (n, transcripts.is_command call)) false false ((n, call) ∷ []) None refl refl (ap (λ b. if b then (n, call) ∷ [] else []) f) refl d refl refl refl refl))
+            (below_too (y ∷ above) (end_walk.course_with_call c (n, transcripts.is_command call)) [] e
+            (next s y above c (end_walk.course_with_call c (n, transcripts.is_command call)) false false ((n, call) ∷ []) None refl refl (ap (λ b. if b then (n, call) ∷ [] else []) f) refl d refl refl refl refl))
         go false f = other h s above c y items f (ap (λ b. if b then session_conditions.is_open_for s above else true) f) refl refl
             (below_too (y ∷ above) c [] e (quiet s y above c refl refl (ap (λ b. if b then (n, call) ∷ [] else []) f) refl d))
     free (item.Event t p prev es) = go (nat_eq s t) refl
@@ -281,7 +281,7 @@ free_next h s above c x items e d below_too = free x
 
         go : (b : Bool) → nat_eq s t ≡ b → by_expected h s c y items [] ≡ conditions h s above 0 (y ∷ items)
         go true f = stands h s above c y items f (ap (λ b. if b then session_conditions.is_open_for s above else true) f ∙ open_now s above c d) refl refl
-            (below_too (y ∷ above) (end_walk.with_outcome c n) [] e (answered s n y above c refl refl refl (ap (λ b. if b then Some n else None) f) d))
+            (below_too (y ∷ above) (end_walk.course_with_outcome c n) [] e (answered s n y above c refl refl refl (ap (λ b. if b then Some n else None) f) d))
         go false f = other h s above c y items f (ap (λ b. if b then session_conditions.is_open_for s above else true) f) refl refl
             (below_too (y ∷ above) c [] e (quiet s y above c refl refl refl (ap (λ b. if b then Some n else None) f) d))
     free (item.Read t n l p reach r) = go (nat_eq s t) refl
@@ -291,7 +291,7 @@ free_next h s above c x items e d below_too = free x
 
         go : (b : Bool) → nat_eq s t ≡ b → by_expected h s c y items [] ≡ conditions h s above 0 (y ∷ items)
         go true f = stands h s above c y items f (ap (λ b. if b then session_conditions.is_open_for s above else true) f ∙ open_now s above c d) refl refl
-            (below_too (y ∷ above) (end_walk.with_outcome c n) [] e (answered s n y above c refl refl refl (ap (λ b. if b then Some n else None) f) d))
+            (below_too (y ∷ above) (end_walk.course_with_outcome c n) [] e (answered s n y above c refl refl refl (ap (λ b. if b then Some n else None) f) d))
         go false f = other h s above c y items f (ap (λ b. if b then session_conditions.is_open_for s above else true) f) refl refl
             (below_too (y ∷ above) c [] e (quiet s y above c refl refl refl (ap (λ b. if b then Some n else None) f) d))
     free (item.Unsent t n) = go (nat_eq s t) refl
@@ -301,7 +301,7 @@ free_next h s above c x items e d below_too = free x
 
         go : (b : Bool) → nat_eq s t ≡ b → by_expected h s c y items [] ≡ conditions h s above 0 (y ∷ items)
         go true f = stands h s above c y items f (ap (λ b. if b then list_any (outcome_order.is_ended s) above else true) f ∙ d.ended) refl refl
-            (below_too (y ∷ above) (end_walk.with_outcome c n) [] e (answered s n y above c refl refl refl (ap (λ b. if b then Some n else None) f) d))
+            (below_too (y ∷ above) (end_walk.course_with_outcome c n) [] e (answered s n y above c refl refl refl (ap (λ b. if b then Some n else None) f) d))
         go false f = other h s above c y items f (ap (λ b. if b then list_any (outcome_order.is_ended s) above else true) f) refl refl
             (below_too (y ∷ above) c [] e (quiet s y above c refl refl refl (ap (λ b. if b then Some n else None) f) d))
     free (item.Unanswered t n) = go (nat_eq s t) refl
@@ -311,7 +311,7 @@ free_next h s above c x items e d below_too = free x
 
         go : (b : Bool) → nat_eq s t ≡ b → by_expected h s c y items [] ≡ conditions h s above 0 (y ∷ items)
         go true f = stands h s above c y items f refl refl refl
-            (below_too (y ∷ above) (end_walk.with_outcome c n) [] e (answered s n y above c refl refl refl (ap (λ b. if b then Some n else None) f) d))
+            (below_too (y ∷ above) (end_walk.course_with_outcome c n) [] e (answered s n y above c refl refl refl (ap (λ b. if b then Some n else None) f) d))
         go false f = other h s above c y items f refl refl refl
             (below_too (y ∷ above) c [] e (quiet s y above c refl refl refl (ap (λ b. if b then Some n else None) f) d))
     free (item.Doubt t n) = go (nat_eq s t) refl
@@ -349,7 +349,7 @@ free_next h s above c x items e d below_too = free x
         us = session_conditions.open_calls s above
 
         k : end_walk.Course
-        k = end_walk.with_end c (end_walk.unanswered c)
+        k = end_walk.with_end c (end_walk.calls_left c)
 
         go : (b : Bool) → nat_eq s t ≡ b → by_expected h s c y items [] ≡ conditions h s above 0 (y ∷ items)
         go true f =
@@ -379,12 +379,12 @@ free_next h s above c x items e d below_too = free x
         go : (b : Bool) → nat_eq s t ≡ b → by_expected h s c y items [] ≡ conditions h s above 0 (y ∷ items)
         go true f =
             ap (λ b. if b then end_walk.may_stand h s c y && end_walk.run_course h s k items else end_walk.run_course h s c items) f
-            ∙ closes (end_walk.is_open c && session_conditions.is_end_of s how.Closed (lists.at_place h p)) (end_walk.is_none (end_walk.unanswered c)) (end_walk.run_course h s k items)
+            ∙ closes (end_walk.course_is_open c && session_conditions.is_end_of s how.Closed (lists.at_place h p)) (end_walk.are_no_calls (end_walk.calls_left c)) (end_walk.run_course h s k items)
             (session_conditions.is_in_session h s above y) (item_conditions.each_below (session_conditions.is_in_session h s) (y ∷ above) items)
             (session_conditions.is_ending s 0 above items y) (session_conditions.are_ends s (session_conditions.left_below s 0 above y) (y ∷ above) items)
             (ap (λ b. if b then session_conditions.is_open_for s above && session_conditions.is_end_of s how.Closed (lists.at_place h p) else true) f
             ∙ ap (λ b. b && session_conditions.is_end_of s how.Closed (lists.at_place h p)) (open_now s above c d))
-            (ap (λ b. if b then nat_eq (length us) 0 else true) f ∙ none_open us ∙ ap end_walk.is_none (left_open s above c d))
+            (ap (λ b. if b then nat_eq (length us) 0 else true) f ∙ none_open us ∙ ap end_walk.are_no_calls (left_open s above c d))
             (below_too (y ∷ above) k [] refl (next s y above c k false true [] None refl f refl refl d refl refl (append-nil c.calls) refl))
         go false f = other h s above c y items f
             (ap (λ b. if b then session_conditions.is_open_for s above && session_conditions.is_end_of s how.Closed (lists.at_place h p) else true) f)
@@ -394,8 +394,8 @@ free_next h s above c x items e d below_too = free x
 
 runs : (h : histories.History) (s : ℕ) (above : List Item) (c : end_walk.Course) (ws : List (ℕ × WindowCall)) (items : List Item) → c.expected ≡ map call_of ws → Describes s above c
     → Runs h s above c ws items
-runs h s above c [] [] e d = ap end_walk.is_none e
-runs h s above c (w ∷ ws) [] e d = ap end_walk.is_none e
+runs h s above c [] [] e d = ap end_walk.are_no_calls e
+runs h s above c (w ∷ ws) [] e d = ap end_walk.are_no_calls e
 runs h s above c (w ∷ ws) (x ∷ items) e d = ap (by_expected h s c x items) e ∙ expected_next h s above c w ws x items d (λ up k us f g. runs h s up k us items f g)
 runs h s above c [] (x ∷ items) e d = ap (by_expected h s c x items) e ∙ free_next h s above c x items e d (λ up k us f g. runs h s up k us items f g)
 

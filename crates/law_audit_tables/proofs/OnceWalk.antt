@@ -224,7 +224,7 @@ not_called : (commit : ℕ) (rest : once_walk.Dos) (name : List ℕ) (op : Op) �
 not_called commit [] name op e = absurd (cc)
 not_called commit (d ∷ rest) name op e = ap (λ b. same_values.is_same_command d.1 (name, op) && b) e ∙ and_false (same_values.is_same_command d.1 (name, op))
 
-some_left : (commit : ℕ) (rest : once_walk.Dos) → once_walk.is_before commit rest ≡ false → once_walk.is_none rest ≡ false
+some_left : (commit : ℕ) (rest : once_walk.Dos) → once_walk.is_before commit rest ≡ false → once_walk.are_no_dos rest ≡ false
 some_left commit [] e = absurd (cc)
 some_left commit (d ∷ rest) e = refl
 
@@ -245,7 +245,7 @@ too_late h s commit rest (x ∷ items) e = late h s commit rest x items e (λ m 
 record Stands (h : histories.History) (s : ℕ) (above : List Item) (done rest : once_walk.Dos) : Type 0 where
   split : histories.dos h s ≡ done ++ rest
   enough : length done ≤ called_commands s above
-  exact : once_walk.is_none rest ≡ false → length done ≡ called_commands s above
+  exact : once_walk.are_no_dos rest ≡ false → length done ≡ called_commands s above
 
 committed : (h : histories.History) (s p : ℕ) (above : List Item) (done rest : once_walk.Dos) → Stands h s above done rest
     → nat_le (once.dos_upto h s p) (called_commands s above) ≡ once_walk.is_before p rest
@@ -301,7 +301,7 @@ Effect h s commit above rest items =
     once_walk.take_effect s commit rest items
     ≡ (same_values.begins same_values.is_same_command (map (λ d. d.1) rest) (once.commands s items) && item_conditions.each_below (session_conditions.is_called_before h s) above items)
 
-no_more : (rest : once_walk.Dos) → once_walk.is_none rest ≡ (same_values.begins same_values.is_same_command (map (λ d. d.1) rest) [] && true)
+no_more : (rest : once_walk.Dos) → once_walk.are_no_dos rest ≡ (same_values.begins same_values.is_same_command (map (λ d. d.1) rest) [] && true)
 no_more [] = refl
 no_more (d ∷ rest) = refl
 

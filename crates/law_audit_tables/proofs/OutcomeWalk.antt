@@ -24,7 +24,7 @@ record Describes (s : ℕ) (above : List Item) (k : outcome_walk.Known) : Type 0
   commands : (n : ℕ) → list_any (item_conditions.is_command_numbered n) (transcripts.calls s above) ≡ outcome_walk.is_some_command (lists.at_place k.commands n)
   queries : (n : ℕ) → list_any (session_conditions.is_query_numbered n) (transcripts.calls s above) ≡ outcome_walk.is_some_query (lists.at_place k.commands n)
   unsent : count_by (outcome_order.is_unsent s) above ≡ k.unsent
-  highest : (n : ℕ) → list_all (λ y. session_conditions.is_below_number n (transcripts.outcome_of s y)) above ≡ outcome_walk.is_above k.highest n
+  highest : (n : ℕ) → list_all (λ y. session_conditions.is_below_number n (transcripts.outcome_of s y)) above ≡ outcome_walk.exceeds k.highest n
   left_open : list_any (outcome_order.is_unanswered s) above ≡ k.left_open
 
 -- ---- tests
@@ -73,12 +73,12 @@ not_unsent : (s : ℕ) (above : List Item) (k : outcome_walk.Known) (x : Item) �
 not_unsent s above k x d e = let u = unsent_next s x above false e in let v = d.unsent in omega (arith, u, v)
 
 no_outcome : (s : ℕ) (above : List Item) (k : outcome_walk.Known) (x : Item) → Describes s above k → transcripts.outcome_of s x ≡ None
-    → (n : ℕ) → list_all (λ y. session_conditions.is_below_number n (transcripts.outcome_of s y)) (x ∷ above) ≡ outcome_walk.is_above k.highest n
+    → (n : ℕ) → list_all (λ y. session_conditions.is_below_number n (transcripts.outcome_of s y)) (x ∷ above) ≡ outcome_walk.exceeds k.highest n
 no_outcome s above k x d e n =
     ap (λ o. session_conditions.is_below_number n o && list_all (λ y. session_conditions.is_below_number n (transcripts.outcome_of s y)) above) e ∙ d.highest n
 
 -- the least of two bounds is the one that is above the other
-higher : (h : Option ℕ) (m n : ℕ) → outcome_walk.is_above h m ≡ true → (nat_lt m n && outcome_walk.is_above h n) ≡ nat_lt m n
+higher : (h : Option ℕ) (m n : ℕ) → outcome_walk.exceeds h m ≡ true → (nat_lt m n && outcome_walk.exceeds h n) ≡ nat_lt m n
 higher None m n e = and_true (nat_lt m n)
 higher (Some j) m n e = go (nat_lt m n) refl
   where
@@ -86,7 +86,7 @@ higher (Some j) m n e = go (nat_lt m n) refl
     go true f = grind (arith, nat_tests)
     go false f = refl
 
-one_outcome : (s : ℕ) (above : List Item) (k : outcome_walk.Known) (x : Item) (m : ℕ) → Describes s above k → transcripts.outcome_of s x ≡ Some m → outcome_walk.is_above k.highest m ≡ true
+one_outcome : (s : ℕ) (above : List Item) (k : outcome_walk.Known) (x : Item) (m : ℕ) → Describes s above k → transcripts.outcome_of s x ≡ Some m → outcome_walk.exceeds k.highest m ≡ true
     → (n : ℕ) → list_all (λ y. session_conditions.is_below_number n (transcripts.outcome_of s y)) (x ∷ above) ≡ nat_lt m n
 one_outcome s above k x m d e h n =
     ap₂ (λ (o : Option ℕ) (b : Bool). session_conditions.is_below_number n o && b) e (d.highest n) ∙ higher k.highest m n h
@@ -111,7 +111,7 @@ quiet s above k x d c u o l =
 
 -- an outcome of a call that was sent
 outcome : (s : ℕ) (above : List Item) (k : outcome_walk.Known) (x : Item) (m : ℕ) → Describes s above k → transcripts.called_by s x ≡ [] → outcome_order.is_unsent s x ≡ false
-    → transcripts.outcome_of s x ≡ Some m → outcome_order.is_unanswered s x ≡ false → outcome_walk.is_above k.highest m ≡ true → Describes s (x ∷ above) (outcome_walk.with_outcome k m)
+    → transcripts.outcome_of s x ≡ Some m → outcome_order.is_unanswered s x ≡ false → outcome_walk.exceeds k.highest m ≡ true → Describes s (x ∷ above) (outcome_walk.known_with_outcome k m)
 outcome s above k x m d c u o l h =
     let n = no_call s above k x d c in
     record {
@@ -163,7 +163,7 @@ called s above k t m c d e f =
       left_open = still_open s above k x d refl;
     }
 
-unsent : (s : ℕ) (above : List Item) (k : outcome_walk.Known) (t m : ℕ) → Describes s above k → nat_eq s t ≡ true → outcome_walk.is_above k.highest m ≡ true
+unsent : (s : ℕ) (above : List Item) (k : outcome_walk.Known) (t m : ℕ) → Describes s above k → nat_eq s t ≡ true → outcome_walk.exceeds k.highest m ≡ true
     → Describes s (item.Unsent t m ∷ above) (outcome_walk.known_with k (item.Unsent t m))
 unsent s above k t m d e h =
     let x : Item = item.Unsent t m in
@@ -177,7 +177,7 @@ unsent s above k t m d e h =
       left_open = still_open s above k x d refl;
     }
 
-unanswered : (s : ℕ) (above : List Item) (k : outcome_walk.Known) (t m : ℕ) → Describes s above k → nat_eq s t ≡ true → outcome_walk.is_above k.highest m ≡ true
+unanswered : (s : ℕ) (above : List Item) (k : outcome_walk.Known) (t m : ℕ) → Describes s above k → nat_eq s t ≡ true → outcome_walk.exceeds k.highest m ≡ true
     → Describes s (item.Unanswered t m ∷ above) (outcome_walk.known_with k (item.Unanswered t m))
 unanswered s above k t m d e h =
     let x : Item = item.Unanswered t m in
@@ -198,13 +198,13 @@ rises s above None = true
 rises s above (Some n) = list_all (λ y. session_conditions.is_below_number n (transcripts.outcome_of s y)) above
 
 -- of an own outcome
-own_outcome : (s t n : ℕ) (above : List Item) (k : outcome_walk.Known) → Describes s above k → nat_eq s t ≡ true → rises s above (if nat_eq s t then Some n else None) ≡ outcome_walk.is_above k.highest n
+own_outcome : (s t n : ℕ) (above : List Item) (k : outcome_walk.Known) → Describes s above k → nat_eq s t ≡ true → rises s above (if nat_eq s t then Some n else None) ≡ outcome_walk.exceeds k.highest n
 own_outcome s t n above k d e = ap (λ b. rises s above (if b then Some n else None)) e ∙ d.highest n
 
 none_open : (s : ℕ) (above : List Item) (k : outcome_walk.Known) → Describes s above k → session_conditions.none_left_open s above ≡ not k.left_open
 none_open s above k d = ap not d.left_open
 
-same_test : (s : ℕ) (above : List Item) (k : outcome_walk.Known) (x : Item) → Describes s above k → outcome_walk.is_own s x ≡ true → session_conditions.is_in_order s above x ≡ outcome_walk.may_follow k x
+same_test : (s : ℕ) (above : List Item) (k : outcome_walk.Known) (x : Item) → Describes s above k → outcome_walk.is_of_calls s x ≡ true → session_conditions.is_in_order s above x ≡ outcome_walk.may_follow k x
 same_test s above k (item.Called t n c) d e =
     and_true (session_conditions.is_numbered s above (item.Called t n c) && true) ∙ and_true (session_conditions.is_numbered s above (item.Called t n c))
     ∙ ap (λ b. if b then nat_eq n (length (transcripts.calls s above) + 1) && nat_eq (count_by (outcome_order.is_unsent s) above) 0 else true) e
@@ -241,19 +241,19 @@ same_test s above k (item.Pending m from to kind) d e = absurd (cc)
 same_test s above k (item.Skip reason) d e = absurd (cc)
 
 -- an own item that follows
-own_next : (s : ℕ) (above : List Item) (k : outcome_walk.Known) (x : Item) → Describes s above k → outcome_walk.is_own s x ≡ true → outcome_walk.may_follow k x ≡ true
+own_next : (s : ℕ) (above : List Item) (k : outcome_walk.Known) (x : Item) → Describes s above k → outcome_walk.is_of_calls s x ≡ true → outcome_walk.may_follow k x ≡ true
     → Describes s (x ∷ above) (outcome_walk.known_with k x)
 own_next s above k (item.Called t n c) d e f = called s above k t n c d e (first_holds (nat_eq n (length k.commands + 1)) (nat_eq k.unsent 0) f)
 own_next s above k (item.Unsent t n) d e f =
-    unsent s above k t n d e (second_holds (nat_eq n (length k.commands + k.unsent + 1)) (outcome_walk.is_above k.highest n) (first_holds _ (not k.left_open) f))
+    unsent s above k t n d e (second_holds (nat_eq n (length k.commands + k.unsent + 1)) (outcome_walk.exceeds k.highest n) (first_holds _ (not k.left_open) f))
 own_next s above k (item.Reply t n p r) d e f =
-    outcome s above k (item.Reply t n p r) n d refl refl (ap (λ b. if b then Some n else None) e) refl (first_holds (outcome_walk.is_above k.highest n) _ f)
+    outcome s above k (item.Reply t n p r) n d refl refl (ap (λ b. if b then Some n else None) e) refl (first_holds (outcome_walk.exceeds k.highest n) _ f)
 own_next s above k (item.Read t n l p reach r) d e f =
-    outcome s above k (item.Read t n l p reach r) n d refl refl (ap (λ b. if b then Some n else None) e) refl (first_holds (outcome_walk.is_above k.highest n) _ f)
+    outcome s above k (item.Read t n l p reach r) n d refl refl (ap (λ b. if b then Some n else None) e) refl (first_holds (outcome_walk.exceeds k.highest n) _ f)
 own_next s above k (item.Doubt t n) d e f =
-    outcome s above k (item.Doubt t n) n d refl refl (ap (λ b. if b then Some n else None) e) refl (first_holds (outcome_walk.is_above k.highest n) _ f)
+    outcome s above k (item.Doubt t n) n d refl refl (ap (λ b. if b then Some n else None) e) refl (first_holds (outcome_walk.exceeds k.highest n) _ f)
 own_next s above k (item.Lost t n) d e f =
-    outcome s above k (item.Lost t n) n d refl refl (ap (λ b. if b then Some n else None) e) refl (first_holds (outcome_walk.is_above k.highest n) _ f)
+    outcome s above k (item.Lost t n) n d refl refl (ap (λ b. if b then Some n else None) e) refl (first_holds (outcome_walk.exceeds k.highest n) _ f)
 own_next s above k (item.Unanswered t n) d e f = unanswered s above k t n d e f
 own_next s above k (item.Leader j t) d e f = absurd (cc)
 own_next s above k (item.Commit p) d e f = absurd (cc)
@@ -272,7 +272,7 @@ record Other (s : ℕ) (above : List Item) (k : outcome_walk.Known) (x : Item) :
   test : session_conditions.is_in_order s above x ≡ true
   next : Describes s (x ∷ above) k
 
-other : (s : ℕ) (above : List Item) (k : outcome_walk.Known) (x : Item) → Describes s above k → outcome_walk.is_own s x ≡ false → Other s above k x
+other : (s : ℕ) (above : List Item) (k : outcome_walk.Known) (x : Item) → Describes s above k → outcome_walk.is_of_calls s x ≡ false → Other s above k x
 other s above k (item.Called t n c) d e = record {
   test = ap (λ b. (if b then nat_eq n (length (transcripts.calls s above) + 1) && nat_eq (count_by (outcome_order.is_unsent s) above) 0 else true) && true && true) e;
   next = quiet s above k (item.Called t n c) d (ap (λ b. if b then (n, c) ∷ [] else []) e) refl refl refl;
@@ -326,7 +326,7 @@ abbrev in_order : ℕ → List Item → List Item → Bool
 in_order s above items = item_conditions.each_below (session_conditions.is_in_order s) above items
 
 one_item : (s : ℕ) (above : List Item) (k : outcome_walk.Known) (x : Item) (items : List Item) → Describes s above k
-    → ((j : outcome_walk.Known) → Describes s (x ∷ above) j → outcome_walk.are_in_order s j items ≡ in_order s (x ∷ above) items) → (b : Bool) → outcome_walk.is_own s x ≡ b
+    → ((j : outcome_walk.Known) → Describes s (x ∷ above) j → outcome_walk.are_in_order s j items ≡ in_order s (x ∷ above) items) → (b : Bool) → outcome_walk.is_of_calls s x ≡ b
     → (if b then outcome_walk.may_follow k x && outcome_walk.are_in_order s (outcome_walk.known_with k x) items else outcome_walk.are_in_order s k items)
     ≡ (session_conditions.is_in_order s above x && in_order s (x ∷ above) items)
 one_item s above k x items d next true e =
@@ -339,7 +339,7 @@ one_item s above k x items d next false e =
 
 in_order_from : (s : ℕ) (above : List Item) (k : outcome_walk.Known) (items : List Item) → Describes s above k → outcome_walk.are_in_order s k items ≡ in_order s above items
 in_order_from s above k [] d = refl
-in_order_from s above k (x ∷ items) d = one_item s above k x items d (λ j f. in_order_from s (x ∷ above) j items f) (outcome_walk.is_own s x) refl
+in_order_from s above k (x ∷ items) d = one_item s above k x items d (λ j f. in_order_from s (x ∷ above) j items f) (outcome_walk.is_of_calls s x) refl
 
 pub outcomes_are_walked : laws.OutcomesAreWalked
 outcomes_are_walked s items = in_order_from s [] outcome_walk.nothing_known items (record {

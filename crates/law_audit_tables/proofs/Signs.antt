@@ -12,7 +12,7 @@ use Rattle.spec_audit.specs.HistoryCondition as history_condition
 use Rattle.law_told.proofs.Lists.{at_within, at_end, take_all}
 use Rattle.law_told.proofs.Growth.{live_grown}
 use Rattle.law_told.proofs.Named.{live_now, live_end, opened_within}
-use Rattle.law_audit_tables.specs.Signs as signs
+use Rattle.law_audit_tables.specs.SignTable as signs
 use Rattle.law_audit_tables.specs.TablesFound as laws
 use Rattle.law_audit_tables.proofs.Lists.{at_past, get_set, get_other, longer, suc_differs}
 
@@ -72,10 +72,10 @@ has_sign g t s d = ap is_some (d.live s) ∙ of_test (live_now g s)
     of_test false = refl
 
 due_sign : (timeout time : ℕ) (g : histories.History) (t : signs.Signs) (s : ℕ) → Describes g t
-    → signs.is_due timeout time (signs.sign_of t s) ≡ (live_now g s && nat_le timeout (time - sign_now g s))
-due_sign timeout time g t s d = ap (signs.is_due timeout time) (d.live s) ∙ of_test (live_now g s)
+    → signs.sign_is_old timeout time (signs.sign_of t s) ≡ (live_now g s && nat_le timeout (time - sign_now g s))
+due_sign timeout time g t s d = ap (signs.sign_is_old timeout time) (d.live s) ∙ of_test (live_now g s)
   where
-    of_test : (b : Bool) → signs.is_due timeout time (cond b (Some (sign_now g s)) None) ≡ (b && nat_le timeout (time - sign_now g s))
+    of_test : (b : Bool) → signs.sign_is_old timeout time (cond b (Some (sign_now g s)) None) ≡ (b && nat_le timeout (time - sign_now g s))
     of_test true = refl
     of_test false = refl
 
@@ -117,7 +117,7 @@ within timeout time g t s d e = opened_within g s (first (histories.is_open (lis
     first true b k = refl
     first false b k = absurd (cc)
 
-due_some : (timeout time : ℕ) (sign : Option ℕ) → signs.is_due timeout time sign ≡ true → is_some sign ≡ true
+due_some : (timeout time : ℕ) (sign : Option ℕ) → signs.sign_is_old timeout time sign ≡ true → is_some sign ≡ true
 due_some timeout time None e = absurd (cc)
 due_some timeout time (Some n) e = refl
 
@@ -135,7 +135,7 @@ ends_within timeout time g t (act.Expire r) s d e l =
 any_next : (g : histories.History) (a : ℕ × Act) (s : ℕ) → list_any (λ b. histories.ends s b.1) (g ++ a ∷ []) ≡ (list_any (λ b. histories.ends s b.1) g || (histories.ends s a.1 || false))
 any_next g a s = list_any-append (λ b. histories.ends s b.1) g (a ∷ [])
 
-size_with : (t : signs.Signs) (s : ℕ) (v : Option ℕ) → length (signs.with_sign t s v) ≡ length t
+size_with : (t : signs.Signs) (s : ℕ) (v : Option ℕ) → length (signs.with_sign_at t s v) ≡ length t
 size_with t zero v = refl
 size_with t (suc k) v = length-set t k v
 
@@ -143,16 +143,16 @@ size_with t (suc k) v = length-set t k v
 abbrev front : signs.Signs → ℕ → Act → signs.Signs
 front t time act.Nothing = t
 front t time (act.Open c o) = t
-front t time (act.Keep s) = signs.with_sign t s (Some time)
+front t time (act.Keep s) = signs.with_sign_at t s (Some time)
 front t time (act.Do s name o) = t
-front t time (act.Close s) = signs.with_sign t s None
-front t time (act.Expire s) = signs.with_sign t s None
+front t time (act.Close s) = signs.with_sign_at t s None
+front t time (act.Expire s) = signs.with_sign_at t s None
 
 abbrev back : ℕ → Act → Option ℕ
 back time (act.Open c o) = Some time
 back time _ = None
 
-signed_is : (t : signs.Signs) (time : ℕ) (x : Act) → signs.signed t time x ≡ front t time x ++ back time x ∷ []
+signed_is : (t : signs.Signs) (time : ℕ) (x : Act) → signs.signs_after t time x ≡ front t time x ++ back time x ∷ []
 signed_is t time act.Nothing = refl
 signed_is t time (act.Open c o) = refl
 signed_is t time (act.Keep s) = refl
@@ -169,19 +169,19 @@ front_size t time (act.Close s) = size_with t s None
 front_size t time (act.Expire s) = size_with t s None
 
 -- what the table has of a session after a change of one
-with_same : (t : signs.Signs) (s : ℕ) (v : Option ℕ) → is_some (signs.sign_of t s) ≡ true → signs.sign_of (signs.with_sign t s v) s ≡ v
+with_same : (t : signs.Signs) (s : ℕ) (v : Option ℕ) → is_some (signs.sign_of t s) ≡ true → signs.sign_of (signs.with_sign_at t s v) s ≡ v
 with_same t zero v e = absurd (cc)
-with_same t (suc k) v e = ap signs.joined (get_set t k v (there t k e))
+with_same t (suc k) v e = ap signs.flat_sign (get_set t k v (there t k e))
   where
-    there : (u : signs.Signs) (j : ℕ) → is_some (signs.joined (slice_get u j)) ≡ true → j < length u
+    there : (u : signs.Signs) (j : ℕ) → is_some (signs.flat_sign (slice_get u j)) ≡ true → j < length u
     there [] j f = absurd (cc)
     there (x ∷ u) zero f = omega arith
     there (x ∷ u) (suc j) f = let l = there u j f in omega arith
 
-with_other : (t : signs.Signs) (s r : ℕ) (v : Option ℕ) → nat_eq s r ≡ false → signs.sign_of (signs.with_sign t r v) s ≡ signs.sign_of t s
+with_other : (t : signs.Signs) (s r : ℕ) (v : Option ℕ) → nat_eq s r ≡ false → signs.sign_of (signs.with_sign_at t r v) s ≡ signs.sign_of t s
 with_other t s zero v e = refl
 with_other t zero (suc k) v e = refl
-with_other t (suc j) (suc k) v e = ap signs.joined (get_other t k j v (suc_differs j k e))
+with_other t (suc j) (suc k) v e = ap signs.flat_sign (get_other t k j v (suc_differs j k e))
 
 -- a session that was there before: whether it is live, and its sign
 live_next : (g : histories.History) (a : ℕ × Act) (s : ℕ) → s ≤ length g
@@ -296,19 +296,19 @@ signed_live timeout time g t x s d e = go (nat_le s (length g)) refl (nat_eq s (
         → signs.sign_of (front t time x ++ back time x ∷ []) s ≡ live_sign (g ++ (time, x) ∷ []) s
     go true l c m =
         let low : s ≤ length g = grind (arith, nat_tests) in
-        ap signs.joined (at_within (front t time x) (back time x ∷ []) s (omega (arith, size, low))) ∙ old_session timeout time g t x s d e low
+        ap signs.flat_sign (at_within (front t time x) (back time x ∷ []) s (omega (arith, size, low))) ∙ old_session timeout time g t x s d e low
     go false l true m =
         let last : s ≡ suc (length g) = equal s (suc (length g)) m in
         let place : s ≡ suc (length (front t time x)) = last ∙ ap (λ n. suc n) (sym size) in
-        ap (signs.sign_of (front t time x ++ back time x ∷ [])) place ∙ ap signs.joined (at_end (front t time x) (back time x) [])
+        ap (signs.sign_of (front t time x ++ back time x ∷ [])) place ∙ ap signs.flat_sign (at_end (front t time x) (back time x) [])
         ∙ new_session timeout time g t x d e ∙ ap (live_sign (g ++ (time, x) ∷ [])) (sym last)
     go false l false m =
         let far : suc (length g) < s = grind (arith, nat_tests) in
-        ap signs.joined (at_past (front t time x ++ back time x ∷ []) s (let k = longer (front t time x) (back time x) in omega (arith, k, size, far)))
+        ap signs.flat_sign (at_past (front t time x ++ back time x ∷ []) s (let k = longer (front t time x) (back time x) in omega (arith, k, size, far)))
         ∙ sym (no_session g (time, x) s far)
 
 signed_describes : (timeout : ℕ) (g : histories.History) (t : signs.Signs) (a : ℕ × Act) → Describes g t → signs.is_allowed timeout t a.0 a.1 ≡ true
-    → Describes (g ++ a ∷ []) (signs.signed t a.0 a.1)
+    → Describes (g ++ a ∷ []) (signs.signs_after t a.0 a.1)
 signed_describes timeout g t a d e = record {
   size = ap (λ u. length u) (signed_is t a.0 a.1) ∙ longer (front t a.0 a.1) (back a.0 a.1) ∙ ap (λ n. suc n) (front_size t a.0 a.1 ∙ d.size) ∙ sym (longer g a);
   live = λ s. ap (λ u. signs.sign_of u s) (signed_is t a.0 a.1) ∙ signed_live timeout a.0 g t a.1 s d e;
@@ -330,9 +330,9 @@ allowed_from timeout g t last (a ∷ acts) d =
     ap (λ b. b && later)
     (grouped (nat_le last a.0) (history_condition.is_of_live h p (histories.session_of a.1)) (history_condition.is_due_expiry h timeout p a.0 a.1)
     ∙ ap (λ b. nat_le last a.0 && b) (same_test timeout a.0 g (a ∷ acts) t a.1 d))
-    ∙ behind_test (nat_le last a.0) (signs.is_allowed timeout t a.0 a.1) later (signs.are_allowed timeout (signs.signed t a.0 a.1) a.0 acts)
+    ∙ behind_test (nat_le last a.0) (signs.is_allowed timeout t a.0 a.1) later (signs.are_allowed timeout (signs.signs_after t a.0 a.1) a.0 acts)
     (λ e. ap₂ (λ (k : histories.History) (n : ℕ). history_condition.are_lawful k timeout n a.0 acts) same place
-    ∙ allowed_from timeout (g ++ a ∷ []) (signs.signed t a.0 a.1) a.0 acts (signed_describes timeout g t a d e))
+    ∙ allowed_from timeout (g ++ a ∷ []) (signs.signs_after t a.0 a.1) a.0 acts (signed_describes timeout g t a d e))
 
 pub signs_find_lawful : laws.SignsFindLawful
 signs_find_lawful timeout h = sym (allowed_from timeout [] [] 0 h (record {

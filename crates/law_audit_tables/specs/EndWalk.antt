@@ -27,34 +27,34 @@ pub record Course : Type 0 where
 abbrev pub nothing_yet : Course
 nothing_yet = record { is_opened = false; is_ended = false; calls = []; outcomes = []; expected = [] }
 
-abbrev pub is_open : Course → Bool
-is_open c = c.is_opened && not c.is_ended
+abbrev pub course_is_open : Course → Bool
+course_is_open c = c.is_opened && not c.is_ended
 
 -- the calls without an outcome, in order
-abbrev pub is_unanswered : List ℕ → Call → Bool
-is_unanswered outcomes c = not (list_any (nat_eq c.0) outcomes)
+abbrev pub has_no_outcome : List ℕ → Call → Bool
+has_no_outcome outcomes c = not (list_any (nat_eq c.0) outcomes)
 
-abbrev pub unanswered : Course → List Call
-unanswered c = filter (is_unanswered c.outcomes) c.calls
+abbrev pub calls_left : Course → List Call
+calls_left c = filter (has_no_outcome c.outcomes) c.calls
 
-abbrev pub is_none : List Call → Bool
-is_none [] = true
-is_none (c ∷ cs) = false
+abbrev pub are_no_calls : List Call → Bool
+are_no_calls [] = true
+are_no_calls (c ∷ cs) = false
 
 -- Doubt of the command or Lost of the query
-abbrev pub is_doubted : ℕ → Call → Item → Bool
-is_doubted s c (item.Doubt t n) = nat_eq s t && nat_eq c.0 n && c.1
-is_doubted s c (item.Lost t n) = nat_eq s t && nat_eq c.0 n && not c.1
-is_doubted s c x = false
+abbrev pub is_told_open : ℕ → Call → Item → Bool
+is_told_open s c (item.Doubt t n) = nat_eq s t && nat_eq c.0 n && c.1
+is_told_open s c (item.Lost t n) = nat_eq s t && nat_eq c.0 n && not c.1
+is_told_open s c x = false
 
-abbrev pub with_opening : Course → Course
-with_opening c = record { is_opened = true; is_ended = c.is_ended; calls = c.calls; outcomes = c.outcomes; expected = c.expected }
+abbrev pub course_with_opening : Course → Course
+course_with_opening c = record { is_opened = true; is_ended = c.is_ended; calls = c.calls; outcomes = c.outcomes; expected = c.expected }
 
-abbrev pub with_call : Course → Call → Course
-with_call c call = record { is_opened = c.is_opened; is_ended = c.is_ended; calls = c.calls ++ call ∷ []; outcomes = c.outcomes; expected = c.expected }
+abbrev pub course_with_call : Course → Call → Course
+course_with_call c call = record { is_opened = c.is_opened; is_ended = c.is_ended; calls = c.calls ++ call ∷ []; outcomes = c.outcomes; expected = c.expected }
 
-abbrev pub with_outcome : Course → ℕ → Course
-with_outcome c n = record { is_opened = c.is_opened; is_ended = c.is_ended; calls = c.calls; outcomes = n ∷ c.outcomes; expected = c.expected }
+abbrev pub course_with_outcome : Course → ℕ → Course
+course_with_outcome c n = record { is_opened = c.is_opened; is_ended = c.is_ended; calls = c.calls; outcomes = n ∷ c.outcomes; expected = c.expected }
 
 abbrev pub with_end : Course → List Call → Course
 with_end c expected = record { is_opened = c.is_opened; is_ended = true; calls = c.calls; outcomes = c.outcomes; expected = expected }
@@ -64,46 +64,46 @@ with_doubt c d expected = record { is_opened = c.is_opened; is_ended = c.is_ende
 
 -- where no call is expected in doubt: whether an own item may stand here
 abbrev pub may_stand : histories.History → ℕ → Course → Item → Bool
-may_stand h s c (item.Called t n call) = is_open c
-may_stand h s c (item.Reply t n p r) = is_open c
-may_stand h s c (item.Read t n l p reach r) = is_open c
-may_stand h s c (item.Event t p prev es) = is_open c
-may_stand h s c (item.Ended t p how.Closed) = is_open c && session_conditions.is_end_of s how.Closed (lists.at_place h p) && is_none (unanswered c)
-may_stand h s c (item.Ended t p how.Expired) = is_open c && session_conditions.is_end_of s how.Expired (lists.at_place h p)
+may_stand h s c (item.Called t n call) = course_is_open c
+may_stand h s c (item.Reply t n p r) = course_is_open c
+may_stand h s c (item.Read t n l p reach r) = course_is_open c
+may_stand h s c (item.Event t p prev es) = course_is_open c
+may_stand h s c (item.Ended t p how.Closed) = course_is_open c && session_conditions.is_end_of s how.Closed (lists.at_place h p) && are_no_calls (calls_left c)
+may_stand h s c (item.Ended t p how.Expired) = course_is_open c && session_conditions.is_end_of s how.Expired (lists.at_place h p)
 may_stand h s c (item.Unsent t n) = c.is_ended
 may_stand h s c (item.Doubt t n) = false
 may_stand h s c (item.Lost t n) = false
 may_stand h s c x = true
 
 abbrev pub course_with : Course → Item → Course
-course_with c (item.Opened t client) = with_opening c
-course_with c (item.Called t n call) = with_call c (n, transcripts.is_command call)
-course_with c (item.Reply t n p r) = with_outcome c n
-course_with c (item.Read t n l p reach r) = with_outcome c n
-course_with c (item.Unsent t n) = with_outcome c n
-course_with c (item.Unanswered t n) = with_outcome c n
+course_with c (item.Opened t client) = course_with_opening c
+course_with c (item.Called t n call) = course_with_call c (n, transcripts.is_command call)
+course_with c (item.Reply t n p r) = course_with_outcome c n
+course_with c (item.Read t n l p reach r) = course_with_outcome c n
+course_with c (item.Unsent t n) = course_with_outcome c n
+course_with c (item.Unanswered t n) = course_with_outcome c n
 course_with c (item.Ended t p how.Closed) = with_end c []
-course_with c (item.Ended t p how.Expired) = with_end c (unanswered c)
+course_with c (item.Ended t p how.Expired) = with_end c (calls_left c)
 course_with c x = c
 
-abbrev pub is_own : ℕ → Item → Bool
-is_own s (item.Opened t c) = nat_eq s t
-is_own s (item.Called t n c) = nat_eq s t
-is_own s (item.Event t p prev es) = nat_eq s t
-is_own s (item.Reply t n p r) = nat_eq s t
-is_own s (item.Read t n l p reach r) = nat_eq s t
-is_own s (item.Ended t p way) = nat_eq s t
-is_own s (item.Doubt t n) = nat_eq s t
-is_own s (item.Lost t n) = nat_eq s t
-is_own s (item.Unsent t n) = nat_eq s t
-is_own s (item.Unanswered t n) = nat_eq s t
-is_own s x = false
+abbrev pub is_of_course : ℕ → Item → Bool
+is_of_course s (item.Opened t c) = nat_eq s t
+is_of_course s (item.Called t n c) = nat_eq s t
+is_of_course s (item.Event t p prev es) = nat_eq s t
+is_of_course s (item.Reply t n p r) = nat_eq s t
+is_of_course s (item.Read t n l p reach r) = nat_eq s t
+is_of_course s (item.Ended t p way) = nat_eq s t
+is_of_course s (item.Doubt t n) = nat_eq s t
+is_of_course s (item.Lost t n) = nat_eq s t
+is_of_course s (item.Unsent t n) = nat_eq s t
+is_of_course s (item.Unanswered t n) = nat_eq s t
+is_of_course s x = false
 
 -- one item, and what the walk finds of the items below it
 abbrev pub run_item : histories.History → ℕ → Course → Item → (Course → Bool) → List Call → Bool
-run_item h s c x below (d ∷ ds) = is_doubted s d x && below (with_doubt c d ds)
-run_item h s c x below [] = if is_own s x then may_stand h s c x && below (course_with c x) else below c
+run_item h s c x below (d ∷ ds) = is_told_open s d x && below (with_doubt c d ds)
+run_item h s c x below [] = if is_of_course s x then may_stand h s c x && below (course_with c x) else below c
 
 abbrev pub run_course : histories.History → ℕ → Course → List Item → Bool
-run_course h s c [] = is_none c.expected
+run_course h s c [] = are_no_calls c.expected
 run_course h s c (x ∷ items) = run_item h s c x (λ k. run_course h s k items) c.expected

@@ -1,4 +1,4 @@
-pub mod Signs
+pub mod SignTable
 pub mod Turns
 pub mod OutcomeWalk
 pub mod OnceWalk

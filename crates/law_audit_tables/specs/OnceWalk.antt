@@ -25,13 +25,13 @@ abbrev pub behind_first : Dos → Dos
 behind_first [] = []
 behind_first (d ∷ rest) = rest
 
-abbrev pub is_none : Dos → Bool
-is_none [] = true
-is_none (d ∷ rest) = false
+abbrev pub are_no_dos : Dos → Bool
+are_no_dos [] = true
+are_no_dos (d ∷ rest) = false
 
 -- the items below, where this is the greatest commit above and these are the acts that are left
 abbrev pub take_effect : ℕ → ℕ → Dos → List Item → Bool
-take_effect s commit rest [] = is_none rest
+take_effect s commit rest [] = are_no_dos rest
 take_effect s commit rest (item.Commit p ∷ items) = take_effect s (max commit p) rest items
 take_effect s commit rest (item.Called t n (call.Command name op) ∷ items) =
     if nat_eq s t then may_call commit rest name op && take_effect s commit (behind_first rest) items else take_effect s commit rest items

@@ -17,9 +17,9 @@ pub record Known : Type 0 where
 abbrev pub nothing_known : Known
 nothing_known = record { commands = []; unsent = 0; highest = None; left_open = false }
 
-abbrev pub is_above : Option ℕ → ℕ → Bool
-is_above None n = true
-is_above (Some m) n = nat_lt m n
+abbrev pub exceeds : Option ℕ → ℕ → Bool
+exceeds None n = true
+exceeds (Some m) n = nat_lt m n
 
 abbrev pub is_some_command : Option Bool → Bool
 is_some_command None = false
@@ -32,41 +32,41 @@ is_some_query (Some b) = not b
 -- whether an item of the session may come next
 abbrev pub may_follow : Known → Item → Bool
 may_follow k (item.Called s n c) = nat_eq n (length k.commands + 1) && nat_eq k.unsent 0
-may_follow k (item.Unsent s n) = nat_eq n (length k.commands + k.unsent + 1) && is_above k.highest n && not k.left_open
-may_follow k (item.Reply s n p r) = is_above k.highest n && (is_some_command (lists.at_place k.commands n) && not k.left_open)
-may_follow k (item.Read s n l p reach r) = is_above k.highest n && (is_some_query (lists.at_place k.commands n) && not k.left_open)
-may_follow k (item.Doubt s n) = is_above k.highest n && not k.left_open
-may_follow k (item.Lost s n) = is_above k.highest n && not k.left_open
-may_follow k (item.Unanswered s n) = is_above k.highest n
+may_follow k (item.Unsent s n) = nat_eq n (length k.commands + k.unsent + 1) && exceeds k.highest n && not k.left_open
+may_follow k (item.Reply s n p r) = exceeds k.highest n && (is_some_command (lists.at_place k.commands n) && not k.left_open)
+may_follow k (item.Read s n l p reach r) = exceeds k.highest n && (is_some_query (lists.at_place k.commands n) && not k.left_open)
+may_follow k (item.Doubt s n) = exceeds k.highest n && not k.left_open
+may_follow k (item.Lost s n) = exceeds k.highest n && not k.left_open
+may_follow k (item.Unanswered s n) = exceeds k.highest n
 may_follow k x = true
 
 -- what is known with one item more, where it may follow
-abbrev pub with_outcome : Known → ℕ → Known
-with_outcome k n = record { commands = k.commands; unsent = k.unsent; highest = Some n; left_open = k.left_open }
+abbrev pub known_with_outcome : Known → ℕ → Known
+known_with_outcome k n = record { commands = k.commands; unsent = k.unsent; highest = Some n; left_open = k.left_open }
 
 abbrev pub known_with : Known → Item → Known
 known_with k (item.Called s n c) =
     record { commands = k.commands ++ transcripts.is_command c ∷ []; unsent = k.unsent; highest = k.highest; left_open = k.left_open }
 known_with k (item.Unsent s n) = record { commands = k.commands; unsent = k.unsent + 1; highest = Some n; left_open = k.left_open }
 known_with k (item.Unanswered s n) = record { commands = k.commands; unsent = k.unsent; highest = Some n; left_open = true }
-known_with k (item.Reply s n p r) = with_outcome k n
-known_with k (item.Read s n l p reach r) = with_outcome k n
-known_with k (item.Doubt s n) = with_outcome k n
-known_with k (item.Lost s n) = with_outcome k n
+known_with k (item.Reply s n p r) = known_with_outcome k n
+known_with k (item.Read s n l p reach r) = known_with_outcome k n
+known_with k (item.Doubt s n) = known_with_outcome k n
+known_with k (item.Lost s n) = known_with_outcome k n
 known_with k x = k
 
 -- a session's own items
-abbrev pub is_own : ℕ → Item → Bool
-is_own s (item.Called t n c) = nat_eq s t
-is_own s (item.Unsent t n) = nat_eq s t
-is_own s (item.Unanswered t n) = nat_eq s t
-is_own s (item.Reply t n p r) = nat_eq s t
-is_own s (item.Read t n l p reach r) = nat_eq s t
-is_own s (item.Doubt t n) = nat_eq s t
-is_own s (item.Lost t n) = nat_eq s t
-is_own s x = false
+abbrev pub is_of_calls : ℕ → Item → Bool
+is_of_calls s (item.Called t n c) = nat_eq s t
+is_of_calls s (item.Unsent t n) = nat_eq s t
+is_of_calls s (item.Unanswered t n) = nat_eq s t
+is_of_calls s (item.Reply t n p r) = nat_eq s t
+is_of_calls s (item.Read t n l p reach r) = nat_eq s t
+is_of_calls s (item.Doubt t n) = nat_eq s t
+is_of_calls s (item.Lost t n) = nat_eq s t
+is_of_calls s x = false
 
 abbrev pub are_in_order : ℕ → Known → List Item → Bool
 are_in_order s k [] = true
 are_in_order s k (x ∷ items) =
-    if is_own s x then may_follow k x && are_in_order s (known_with k x) items else are_in_order s k items
+    if is_of_calls s x then may_follow k x && are_in_order s (known_with k x) items else are_in_order s k items

@@ -8,7 +8,7 @@ use Rattle.spec_audit.specs.HistoryCondition as history_condition
 use Rattle.spec_audit.specs.ItemConditions as item_conditions
 use Rattle.spec_audit.specs.SessionConditions as session_conditions
 use Rattle.spec_audit.specs.Audit as audits
-use Rattle.law_audit_tables.specs.Signs as signs
+use Rattle.law_audit_tables.specs.SignTable as signs
 use Rattle.law_audit_tables.specs.Turns as turns
 use Rattle.law_audit_tables.specs.OutcomeWalk as outcome_walk
 use Rattle.law_audit_tables.specs.OnceWalk as once_walk
@@ -20,7 +20,7 @@ abbrev pub SignsFindLawful : Type 0
 SignsFindLawful = (timeout : ℕ) (h : histories.History) → signs.are_allowed timeout [] 0 h ≡ history_condition.is_lawful timeout h
 
 abbrev pub TurnsAreGiven : Type 0
-TurnsAreGiven = (h : histories.History) (p : ℕ) → lists.at_place (turns.turns h) p ≡ histories.turn_of h p
+TurnsAreGiven = (h : histories.History) (p : ℕ) → lists.at_place (turns.turns_of h) p ≡ histories.turn_of h p
 
 abbrev pub OutcomesAreWalked : Type 0
 OutcomesAreWalked = (s : ℕ) (items : List Item)

@@ -10,5 +10,5 @@ turns_after done book [] = []
 turns_after done book (a ∷ acts) =
     (books.acted book (done + 1) a.0 a.1).turn ∷ turns_after (done + 1) (books.acted book (done + 1) a.0 a.1).state acts
 
-abbrev pub turns : histories.History → List Turn
-turns h = turns_after 0 [] h
+abbrev pub turns_of : histories.History → List Turn
+turns_of h = turns_after 0 [] h

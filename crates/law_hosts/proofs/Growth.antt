@@ -10,8 +10,8 @@ use Rattle.spec_raft.specs.Majority as majorities
 use Rattle.spec_transitions.specs.Systems as systems
 use Rattle.spec_transitions.specs.Transitions as transitions
 use Rattle.spec_past.specs.Matching as matchings
-use Rattle.spec_past.proofs.Logs.{agree_on, agree_less}
-use Rattle.spec_past.proofs.Later.{run_committed}
+use Rattle.law_past.proofs.Logs.{agree_on, agree_less}
+use Rattle.law_past.proofs.Later.{run_committed}
 use Rattle.spec_server.specs.Servers as servers
 use Rattle.spec_world.specs.Worlds as worlds
 use Rattle.law_agreement.specs.Pasts as agreement_pasts

@@ -3,7 +3,7 @@ use Rattle.std.proofs.Common.{◌≡◌, ℕ, zero, suc, ◌+◌, ◌-◌, ◌<�
 use Rattle.std.proofs.lemmas.List.{take_at, length-append, append-nil}
 use Rattle.std.proofs.lemmas.Grind.{flat_map-append}
 use Rattle.spec_reading.specs.Reading as reading
-use Rattle.spec_reading.proofs.Fields.{IsBytes-take}
+use Rattle.law_reading.proofs.Fields.{IsBytes-take}
 use Rattle.spec_journal.specs.Records as journal_records
 use Rattle.spec_journal.specs.Journal as journals
 use Rattle.law_journal.specs.Appends as appends

@@ -8,10 +8,10 @@ use Rattle.spec_wire.specs.NumberBytes as number_bytes
 use Rattle.spec_wire.specs.Ranges as ranges
 use Rattle.spec_reading.specs.Reading as reading
 use Rattle.spec_reading.specs.Packets as packets
-use Rattle.spec_reading.proofs.Laws.{part_of}
-use Rattle.spec_reading.proofs.Readers.{Reads, IsExact, IsStable, exact_bind, exact_ok, exact_wrong, exact_if, exact_tag, exact_byte, exact_one, exact_two, stable_bind, stable_ok, stable_wrong, stable_if, stable_byte, stable_one, stable_two, again_one, again_two, again_bind}
-use Rattle.spec_reading.proofs.Fields.{small_reads, u64_reads, within_reads, IsBytes-take}
-use Rattle.spec_reading.proofs.Entries.{entry_reads}
+use Rattle.law_reading.proofs.Laws.{part_of}
+use Rattle.law_reading.proofs.Readers.{Reads, IsExact, IsStable, exact_bind, exact_ok, exact_wrong, exact_if, exact_tag, exact_byte, exact_one, exact_two, stable_bind, stable_ok, stable_wrong, stable_if, stable_byte, stable_one, stable_two, again_one, again_two, again_bind}
+use Rattle.law_reading.proofs.Fields.{small_reads, u64_reads, within_reads, IsBytes-take}
+use Rattle.law_reading.proofs.Entries.{entry_reads}
 use Rattle.spec_journal.specs.Records as journal_records
 
 vote_again : (v : Option ℕ) (rest : List ℕ) → journal_records.IsVote v → journal_records.vote_at (journal_records.vote_bytes v ++ rest) ≡ Ok (v, rest)

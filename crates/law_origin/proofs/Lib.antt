@@ -1,3 +1,4 @@
+pub mod Following
 pub mod Each
 pub mod Rules
 pub mod Steps

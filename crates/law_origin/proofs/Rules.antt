@@ -18,7 +18,7 @@ use Rattle.spec_raft.specs.Progress as progress
 use Rattle.spec_node.specs.Node as nodes
 use Rattle.spec_node.specs.NodeStep as steps
 use Rattle.spec_node.specs.Saving as saving
-use Rattle.spec_node.proofs.Kept.{did_log}
+use Rattle.law_origin.proofs.Following.{did_log}
 use Rattle.law_origin.specs.Origin.{entries_in}
 use Rattle.law_origin.proofs.Each.{by_test, each_append, each_take, each_drop, each_map}
 

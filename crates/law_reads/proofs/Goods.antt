@@ -15,9 +15,9 @@ use Rattle.spec_past.specs.Matching as matchings
 use Rattle.spec_past.specs.Polls as polls
 use Rattle.spec_past.specs.Past as pasts
 use Rattle.spec_past.specs.Later as laters
-use Rattle.spec_past.proofs.Polls.{putting, put_same, put_other, one_leader}
-use Rattle.spec_past.proofs.Commits.{putting2}
-use Rattle.spec_past.proofs.Later.{quorum_later}
+use Rattle.law_past.proofs.Polls.{putting, put_same, put_other, one_leader}
+use Rattle.law_past.proofs.Commits.{putting2}
+use Rattle.law_past.proofs.Later.{quorum_later}
 use Rattle.law_agreement.specs.Pasts as agreement_pasts
 use Rattle.law_agreement.proofs.Members.{changing}
 use Rattle.law_agreement.proofs.Ballots.{up}

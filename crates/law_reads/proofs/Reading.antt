@@ -16,10 +16,10 @@ use Rattle.spec_past.specs.Matching as matchings
 use Rattle.spec_past.specs.Past as pasts
 use Rattle.spec_past.specs.PastMoves as past_moves
 use Rattle.spec_past.specs.Later as laters
-use Rattle.spec_past.proofs.Commits.{laws}
-use Rattle.spec_past.proofs.Safety.{arrives, fresh}
-use Rattle.spec_past.proofs.Polls.{same_or, one_leader}
-use Rattle.spec_past.proofs.Later.{quorum_later}
+use Rattle.law_past.proofs.Commits.{laws}
+use Rattle.law_past.proofs.Safety.{arrives, fresh}
+use Rattle.law_past.proofs.Polls.{same_or, one_leader}
+use Rattle.law_past.proofs.Later.{quorum_later}
 use Rattle.law_agreement.specs.Pasts as agreement_pasts
 use Rattle.law_agreement.proofs.Tests.{equal, at_most, above, below, not_below, is_at_most, is_below, is_not_below, is_equal, both, either, on_or_off}
 use Rattle.law_agreement.proofs.Members.{changing, place_within}

@@ -16,10 +16,10 @@ use Rattle.spec_past.specs.Polls as polls
 use Rattle.spec_past.specs.Past as pasts
 use Rattle.spec_past.specs.PastMoves as past_moves
 use Rattle.spec_past.specs.Later as laters
-use Rattle.spec_past.proofs.Logs.{agree_term}
-use Rattle.spec_past.proofs.Growth.{longer_by, last_of_longer}
-use Rattle.spec_past.proofs.Polls.{same_or, first_to_lead}
-use Rattle.spec_past.proofs.Later.{run_later, later_self}
+use Rattle.law_past.proofs.Logs.{agree_term}
+use Rattle.law_past.proofs.Growth.{longer_by, last_of_longer}
+use Rattle.law_past.proofs.Polls.{same_or, first_to_lead}
+use Rattle.law_past.proofs.Later.{run_later, later_self}
 use Rattle.law_agreement.specs.Pasts as agreement_pasts
 use Rattle.law_agreement.proofs.Tests.{at_most, above}
 use Rattle.law_agreement.proofs.Ballots.{Stays, up}
@@ -99,7 +99,7 @@ serve_lead n s w x j y e is_made p sound at runs own r i =
     let first : w.poll.led y.ballot.term ≡ true → ⊥ = λ z. first_to_lead (majorities.cluster_of n) w.poll j (l.role ∙ running y runs) r.fits.0.2 sound.fair (ap w.poll.led l.term ∙ z) in
     let none : agreement_pasts.Each (λ (t : clusters.ReadTaken). t.term ≢ y.ballot.term) s.cluster.takens = subst (agreement_pasts.Each (λ (t : clusters.ReadTaken). t.term ≢ y.ballot.term)) i.takens (unled n w x y.ballot.term x.reads first i.good) in
     let zero_rounds : 0 ≡ x.rounds y.ballot.term = elim (same_or (x.rounds y.ballot.term) 0) [ inl z ↦ sym z | inr ne ↦ absurd (first (i.begun y.ballot.term ne)) ] in
-    let len : length (y.log ++ e ∷ []) ≡ suc (length y.log) = Rattle.spec_past.proofs.Growth.length_longer y.log e in
+    let len : length (y.log ++ e ∷ []) ≡ suc (length y.log) = Rattle.law_past.proofs.Growth.length_longer y.log e in
     let a = serve_change n s w (past_moves.moves w (past_moves.Lead j e)) x j (up y) (up (transitions.leading y e)) at i st.later st.same
     (record {
       server = λ two. record {
@@ -202,7 +202,7 @@ answer_sent n s w v x p j k t r place ok me who own le later same i is = go (nat
     go true e =
         let rise = at_most (x.answered t j) r e in
         let y : services.Service = record x { answered = polls.put2 x.answered t j r } in
-        let h : services.HoldsRound y (end.Node me) (payload.AppendReply t ok place r) = subst (λ a. r ≤ polls.put2 x.answered t j r t a) (sym who) (let b = Rattle.spec_past.proofs.Polls.put2_same x.answered t j r in omega (arith, b)) in
+        let h : services.HoldsRound y (end.Node me) (payload.AppendReply t ok place r) = subst (λ a. r ≤ polls.put2 x.answered t j r t a) (sym who) (let b = Rattle.law_past.proofs.Polls.put2_same x.answered t j r in omega (arith, b)) in
         record { service = record x { answered = polls.put2 x.answered t j r }; holds = serve_sent n s v (record x { answered = polls.put2 x.answered t j r }) p (serve_answer n s v x j t r own le rise i_v) (subst (λ q. services.HoldsRound (record x { answered = polls.put2 x.answered t j r }) q.«from» q.payload) (sym is) h) }
     go false e =
         let lt = above (x.answered t j) r e in

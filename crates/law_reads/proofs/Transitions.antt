@@ -15,8 +15,8 @@ use Rattle.spec_transitions.specs.Systems as systems
 use Rattle.spec_transitions.specs.Transitions as transitions
 use Rattle.spec_past.specs.Past as pasts
 use Rattle.spec_past.specs.PastMoves as past_moves
-use Rattle.spec_past.proofs.Agreement.{run_sound, beginning_sound}
-use Rattle.spec_past.proofs.Later.{later_self}
+use Rattle.law_past.proofs.Agreement.{run_sound, beginning_sound}
+use Rattle.law_past.proofs.Later.{later_self}
 use Rattle.law_refinement.proofs.Steps.{run_executes}
 use Rattle.law_agreement.specs.Agreement as agreements
 use Rattle.law_agreement.specs.Pasts as agreement_pasts
@@ -97,7 +97,7 @@ serve n s w x (transitions.Take j y time bodies) m p sound r i =
 serve n s w x (transitions.Advance j y) m p sound r i =
     let c = progress.commit_place y.leading.peers y.log y.ballot.term y.commit in
     let le : y.commit ≤ c = elim (greatest_is (progress.may_commit y.leading.peers y.log y.ballot.term) y.commit (length y.log - y.commit)) [ inl e ↦ omega (arith, e) | inr g ↦ let a = g.over in omega (arith, a) ] in
-    serve_advance n s w (past_moves.after_moves w (agreement_pasts.moves_of w (transitions.Advance j y))) x j y c p sound m.0 m.1 le r.fits (Rattle.spec_past.proofs.Later.run_later (majorities.cluster_of n) w (agreement_pasts.moves_of w (transitions.Advance j y)) r.fits sound) r.past.committed i
+    serve_advance n s w (past_moves.after_moves w (agreement_pasts.moves_of w (transitions.Advance j y))) x j y c p sound m.0 m.1 le r.fits (Rattle.law_past.proofs.Later.run_later (majorities.cluster_of n) w (agreement_pasts.moves_of w (transitions.Advance j y)) r.fits sound) r.past.committed i
 serve n s w x (transitions.Tick j y) m p sound r i = record { service = record x { rounds = Rattle.spec_past.specs.Polls.put x.rounds y.ballot.term (suc (x.rounds y.ballot.term)) }; holds = serve_tick n s w x j y p sound m.0 m.1 i }
 serve n s w x (transitions.Arrive j y) m p sound r i = serve_arrive n s w x j y p sound m.0 m.1 m.2 i
 serve n s w x (transitions.Follow j y leader) m p sound r i =

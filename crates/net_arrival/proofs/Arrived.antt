@@ -7,9 +7,9 @@ use Rattle.spec_wire.specs.Ranges as ranges
 use Rattle.spec_wire.specs.Spelling as spelling
 use Rattle.spec_reading.specs.Reading as reading
 use Rattle.spec_reading.specs.Packets as packets
-use Rattle.spec_reading.proofs.Fields.{IsBytes-drop}
-use Rattle.spec_reading.proofs.Laws.{read_of, part_of}
-use Rattle.spec_reading.proofs.Packets.{payload_reads}
+use Rattle.law_reading.proofs.Fields.{IsBytes-drop}
+use Rattle.law_reading.proofs.Laws.{read_of, part_of}
+use Rattle.law_reading.proofs.Packets.{payload_reads}
 use Rattle.net_arrival.specs.Arrivals as arrivals
 
 append_nil : {X : Type 0} (xs : List X) → xs ++ [] ≡ xs

@@ -68,7 +68,7 @@ reach_parts k a (x ∷ y ∷ []) = refl
 reach_parts k a (x ∷ y ∷ z ∷ ws) = none_both (λ r p. item.Reach r.0 r.1 r.2 p.0 p.1) (item_words.node_and_arrival k a)
 
 pub pending_parts : (n : text_words.Word) (ws : List text_words.Word)
-    → text_words.both (λ number s. item.Pending number s.0 s.1 s.2) (reply_words.number64_from n) (read_answers.sent_from ws) ≡ item_words.pending_from (n ∷ ws)
+    → text_words.both (λ number s. item.Pending number s.0 s.1 s.2) (reply_words.number64_from n) (read_answers.packet_sent_from ws) ≡ item_words.pending_from (n ∷ ws)
 pending_parts n [] = none_both (λ number s. item.Pending number s.0 s.1 s.2) (reply_words.number64_from n)
 pending_parts n (x ∷ []) = none_both (λ number s. item.Pending number s.0 s.1 s.2) (reply_words.number64_from n)
 pending_parts n (x ∷ y ∷ []) = none_both (λ number s. item.Pending number s.0 s.1 s.2) (reply_words.number64_from n)

@@ -22,6 +22,6 @@ first_size [] = 0
 first_size (w ∷ ws) = reply_words.event_size w
 
 -- the ends of a packet's way, and its kind, of three words
-abbrev pub sent_from : List text_words.Word → Option (End × End × PayloadKind)
-sent_from (f ∷ t ∷ k ∷ []) = item_words.sent_packet_from f t k
-sent_from _ = None
+abbrev pub packet_sent_from : List text_words.Word → Option (End × End × PayloadKind)
+packet_sent_from (f ∷ t ∷ k ∷ []) = item_words.sent_packet_from f t k
+packet_sent_from _ = None

@@ -1,6 +1,5 @@
 ghost use Rattle.std.specs.Prelude.{◌≡◌, IfOk};
 ghost use Rattle.spec_text.specs.Words as spec_words;
-ghost use Rattle.spec_text.specs.OperationWords as operation_words;
 ghost use Rattle.ax_types.specs.declared.items.Item.TheVariants as item;
 ghost use Rattle.spec_script.specs.StepLines as step_lines;
 ghost use Rattle.spec_report_read.specs.ItemWords as item_words;
@@ -16,20 +15,9 @@ use ax_types::{
     ClientId, End, Event, How, Item, Level, List, NoMemory, NodeId, PayloadKind, Reply, SkipReason,
     WatchKind, WindowCall,
 };
+use script_text::watch_kind;
 use std::alloc::Global;
-use text_words::{call, client, is, node};
-
-fn level(word: &[u8]) -> Option<Level>
-    ensures { result ≡ operation_words.level_of word.now }
-{
-    if is(word, "seq") {
-        Some(Level::Seq)
-    } else if is(word, "lin") {
-        Some(Level::Lin)
-    } else {
-        None
-    }
-}
+use text_words::{call, client, is, level, node};
 
 /// `TERM.A` of a linearizable read, `-` of a sequential one.
 fn reach(level: Level, word: &[u8]) -> Option<Option<(u64, u64)>>
@@ -295,20 +283,6 @@ fn event_item(alloc: Global, words: &[&[u8]]) -> Result<Option<Item>, NoMemory>
     }
 }
 
-fn watch_kind(word: &[u8]) -> Option<WatchKind>
-    ensures { result ≡ step_lines.watch_kind_of word.now }
-{
-    if is(word, "all") {
-        Some(WatchKind::All)
-    } else if is(word, "changes") {
-        Some(WatchKind::Changes)
-    } else if is(word, "grants") {
-        Some(WatchKind::Grants)
-    } else {
-        None
-    }
-}
-
 /// The client and the kind of a watch.
 fn watch(client_word: &[u8], kind: &[u8]) -> Option<(ClientId, WatchKind)>
     ensures { result ≡ item_words.watch_from client_word.now kind.now }
@@ -497,7 +471,7 @@ fn made_pending(number: Option<u64>, sent: Option<(End, End, PayloadKind)>) -> O
 
 /// The ends of a packet's way, and its kind, of three words.
 fn sent(words: &[&[u8]]) -> Option<(End, End, PayloadKind)>
-    ensures { result ≡ read_answers.sent_from (behind.words_behind words.now) }
+    ensures { result ≡ read_answers.packet_sent_from (behind.words_behind words.now) }
 {
     match words {
         [from, to, kind] => sent_packet(from, to, kind),

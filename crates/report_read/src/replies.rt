@@ -3,12 +3,12 @@ ghost use Rattle.spec_report_read.specs.ReplyWords as reply_words;
 ghost use Rattle.text_words.specs.Behind as behind;
 ghost use Rattle.report_read.specs.ReadAnswers as read_answers;
 
-use crate::operands::{
-    key_and_text, name, numbers64, only_key, only_number64, only_signed, only_text, two_numbers64,
-};
+use crate::operands::{numbers64, only_number64, two_numbers64};
 use ax_types::{Event, List, Name, NoMemory, Reply};
 use std::alloc::Global;
-use text_words::{is, number, without_operands};
+use text_words::{
+    is, key_and_text, name, number, only_key, only_signed, only_text, without_operands,
+};
 
 /// A reply that is one word.
 fn plain_reply(word: &[u8]) -> Option<Reply>

@@ -28,22 +28,22 @@ abbrev pub get : WindowCall
 get = call.Query level.Lin (codes "c") (query.Long long_query.Get)
 
 -- client 1 has session 2 at node 1
-abbrev pub opened : List Item → List Item
-opened items = item.Leader 1 1 ∷ item.Commit 1 ∷ item.Commit 2 ∷ item.Opened 2 1 ∷ items
+abbrev pub session_opened : List Item → List Item
+session_opened items = item.Leader 1 1 ∷ item.Commit 1 ∷ item.Commit 2 ∷ item.Opened 2 1 ∷ items
 
 abbrev pub open_history : List (ℕ × Act) → List (ℕ × Act)
 open_history acts = (0, act.Nothing) ∷ (0, act.Open 1 1) ∷ acts
 
 abbrev pub early_expiry : audits.Audited
 early_expiry = record {
-  items = opened (item.Commit 3 ∷ item.Ended 2 3 how.Expired ∷ []);
+  items = session_opened (item.Commit 3 ∷ item.Ended 2 3 how.Expired ∷ []);
   history = open_history ((999, act.Expire 2) ∷ []);
   waiting = [];
 }
 
 abbrev pub wrong_number : audits.Audited
 wrong_number = record {
-  items = opened (item.Called 2 1 (add 5) ∷ item.Commit 3 ∷ item.Reply 2 1 3 (reply.Number (pos 6)) ∷ []);
+  items = session_opened (item.Called 2 1 (add 5) ∷ item.Commit 3 ∷ item.Reply 2 1 3 (reply.Number (pos 6)) ∷ []);
   history = report_rows.one_add_history;
   waiting = [];
 }
@@ -58,7 +58,7 @@ long_history = record {
 -- the request arrived below the commit of place 3, and the read is of place 2
 abbrev pub stale_read : audits.Audited
 stale_read = record {
-  items = opened (item.Called 2 1 (add 5) ∷ item.Commit 3 ∷ item.Called 2 2 get ∷ item.Reach 1 1 1 2 2 ∷ item.Reply 2 1 3 (reply.Number (pos 5))
+  items = session_opened (item.Called 2 1 (add 5) ∷ item.Commit 3 ∷ item.Called 2 2 get ∷ item.Reach 1 1 1 2 2 ∷ item.Reply 2 1 3 (reply.Number (pos 5))
       ∷ item.Read 2 2 level.Lin 2 (Some (1, 1)) (reply.Number (pos 0)) ∷ []);
   history = report_rows.one_add_history;
   waiting = [];
@@ -66,7 +66,7 @@ stale_read = record {
 
 abbrev pub uncalled : audits.Audited
 uncalled = record {
-  items = opened (item.Commit 3 ∷ []);
+  items = session_opened (item.Commit 3 ∷ []);
   history = report_rows.one_add_history;
   waiting = [];
 }
@@ -85,7 +85,7 @@ read_back = record {
 -- session 2 listens to a map and puts a text into it, and is told of the event below the reply
 abbrev pub late_event : audits.Audited
 late_event = record {
-  items = opened (item.Called 2 1 (call.Command (codes "m") (op.Map map_op.Listen)) ∷ item.Commit 3 ∷ item.Reply 2 1 3 reply.Done
+  items = session_opened (item.Called 2 1 (call.Command (codes "m") (op.Map map_op.Listen)) ∷ item.Commit 3 ∷ item.Reply 2 1 3 reply.Done
       ∷ item.Called 2 2 (call.Command (codes "m") (op.Map (map_op.Put (codes "a") (codes "1")))) ∷ item.Commit 4 ∷ item.Reply 2 2 4 reply.Nothing
       ∷ item.Event 2 4 0 (event.Changed (codes "m") (codes "a") (codes "1") ∷ []) ∷ []);
   history = open_history ((0, act.Do 2 (codes "m") (op.Map map_op.Listen))
@@ -95,7 +95,7 @@ late_event = record {
 
 abbrev pub second_first : audits.Audited
 second_first = record {
-  items = opened (item.Called 2 1 (add 1) ∷ item.Called 2 2 (add 2) ∷ item.Commit 3 ∷ item.Commit 4
+  items = session_opened (item.Called 2 1 (add 1) ∷ item.Called 2 2 (add 2) ∷ item.Commit 3 ∷ item.Commit 4
       ∷ item.Reply 2 2 4 (reply.Number (pos 3)) ∷ item.Reply 2 1 3 (reply.Number (pos 1)) ∷ []);
   history = open_history ((0, add_act 1) ∷ (0, add_act 2) ∷ []);
   waiting = [];
@@ -103,7 +103,7 @@ second_first = record {
 
 abbrev pub no_doubt : audits.Audited
 no_doubt = record {
-  items = opened (item.Called 2 1 (add 1) ∷ item.Commit 3 ∷ item.Commit 4 ∷ item.Ended 2 4 how.Expired ∷ []);
+  items = session_opened (item.Called 2 1 (add 1) ∷ item.Commit 3 ∷ item.Commit 4 ∷ item.Ended 2 4 how.Expired ∷ []);
   history = open_history ((0, add_act 1) ∷ (1000, act.Expire 2) ∷ []);
   waiting = (2, 1) ∷ [];
 }

@@ -13,7 +13,7 @@ use Rattle.std.proofs.Math.ListN.{drop_of_length-le}
 use Rattle.std.proofs.lemmas.List.{take-append-drop, append_cancel_left}
 use Rattle.spec_text.specs.Words as text_words
 use Rattle.spec_script.specs.Scripts as scripts
-use Rattle.spec_script.proofs.LineLemmas.{newline, is_empty-split}
+use Rattle.script_text.proofs.LineLemmas.{newline, is_empty-split}
 use Rattle.run_top.specs.Answers as answers
 use Rattle.run_top.specs.Judging as judging
 use Rattle.run_top.specs.declared.refusals.Refused.{Refused}

@@ -27,20 +27,20 @@ use Rattle.run_top.specs.declared.refusals.Refused.TheVariants as refused
 -- ---- what is answered before anything is written
 
 -- the words are refused exactly where they ask for no run; want of memory says nothing
-abbrev pub Takes : Option Bool → Result Bool WordsRefused → Type 0
-Takes asked (Ok json) = asked ≡ Some json
-Takes asked (Err words_refused.Usage) = asked ≡ None
-Takes asked (Err words_refused.NoMemory) = ⊤
+abbrev pub TakesWords : Option Bool → Result Bool WordsRefused → Type 0
+TakesWords asked (Ok json) = asked ≡ Some json
+TakesWords asked (Err words_refused.Usage) = asked ≡ None
+TakesWords asked (Err words_refused.NoMemory) = ⊤
 
-abbrev pub IsAsked : Option Bool → Type 0
-IsAsked None = ⊥
-IsAsked (Some json) = ⊤
+abbrev pub AsksRun : Option Bool → Type 0
+AsksRun None = ⊥
+AsksRun (Some json) = ⊤
 
 -- the same, of an answer that may be another refusal
 abbrev pub Accepts : {A : Type 0} → Option Bool → Result A Refused → Type 0
 Accepts asked (Err refused.Usage) = asked ≡ None
 Accepts asked (Err refused.NoMemory) = ⊤
-Accepts asked _ = IsAsked asked
+Accepts asked _ = AsksRun asked
 
 -- the bytes of an input that are read, at most: one more than those of the longest script
 abbrev pub input_bytes : List ℕ → List ℕ
@@ -60,9 +60,9 @@ ReportsAsked None (Ok s) states text end = ⊥
 ReportsAsked (Some json) (Ok s) states text end = report_forms.ReportsRun (report_forms.report_in json) s states text end
 
 -- a script was taken
-abbrev pub IsTaken : Result Script scripts.Refusal → Type 0
-IsTaken (Ok s) = ⊤
-IsTaken (Err r) = ⊥
+abbrev pub ScriptIsTaken : Result Script scripts.Refusal → Type 0
+ScriptIsTaken (Ok s) = ⊤
+ScriptIsTaken (Err r) = ⊥
 
 -- a refusal before the stores were opened leaves them
 abbrev pub LeavesStores : Refused → Type 0 → Type 0
@@ -90,7 +90,7 @@ IsOfRun _ = ⊥
 abbrev pub TellsUsage : Option Bool → Status → Type 0
 TellsUsage asked status.Usage = asked ≡ None
 TellsUsage asked status.NoMemory = ⊤
-TellsUsage asked _ = IsAsked asked
+TellsUsage asked _ = AsksRun asked
 
 -- a refused line is the first one, with its reason; and any further answer is that to a script
 abbrev pub TellsRefusal : Result Script scripts.Refusal → Status → Type 0

@@ -42,7 +42,7 @@ pub fn run_top<I: Source, O: Sink, S: NodeStore>(
     ensures no_read_fault { result ≢ Status.ReadFault → I.faults input.new ≡ I.faults input.old }
     ensures no_write_fault { result ≢ Status.WriteFault → O.faults output.new ≡ O.faults output.old }
     // A call in which neither count of faults rose answers the script, if there is memory.
-    ensures complete { outcomes.IsAsked (answers.form_asked (map string_bytes words.now))
+    ensures complete { outcomes.AsksRun (answers.form_asked (map string_bytes words.now))
         → ¬ counts.Rose (I.faults input.old) (I.faults input.new) → ¬ counts.Rose (O.faults output.old) (O.faults output.new)
         → IfSome (I.content input.old) (λ content. outcomes.AnswersInput (answers.judged (outcomes.input_bytes content)) result) }
 
@@ -50,10 +50,10 @@ pub fn run_top<I: Source, O: Sink, S: NodeStore>(
     ensures sink_count { O.faults output.old ≤ O.faults output.new }
 
     // Where all stores tell what they keep, what is written is the report of the run that the definitions give for the script.
-    ensures written { matching.AreTelling (matching.states_of S.told S.needs_load stores.old.items) → outcomes.IfEnded result (λ end. IfSome (I.content input.old)
-        (λ content. outcomes.WritesReport (answers.form_asked (map string_bytes words.now)) (answers.judged (outcomes.input_bytes content)) (matching.states_of S.told S.needs_load stores.new.items) (O.content output.old) (O.content output.new) end)) }
-    ensures front { result ≡ Status.WriteFault → matching.AreTelling (matching.states_of S.told S.needs_load stores.old.items) → IfSome (I.content input.old)
-        (λ content. outcomes.WritesFront (answers.form_asked (map string_bytes words.now)) (answers.judged (outcomes.input_bytes content)) (matching.states_of S.told S.needs_load stores.new.items) (O.content output.old) (O.content output.new)) }
+    ensures written { matching.AreTelling (matching.store_states_of S.told S.needs_load stores.old.items) → outcomes.IfEnded result (λ end. IfSome (I.content input.old)
+        (λ content. outcomes.WritesReport (answers.form_asked (map string_bytes words.now)) (answers.judged (outcomes.input_bytes content)) (matching.store_states_of S.told S.needs_load stores.new.items) (O.content output.old) (O.content output.new) end)) }
+    ensures front { result ≡ Status.WriteFault → matching.AreTelling (matching.store_states_of S.told S.needs_load stores.old.items) → IfSome (I.content input.old)
+        (λ content. outcomes.WritesFront (answers.form_asked (map string_bytes words.now)) (answers.judged (outcomes.input_bytes content)) (matching.store_states_of S.told S.needs_load stores.new.items) (O.content output.old) (O.content output.new)) }
     // Where neither all nor a part of a report was written, the sink was not called; nor was the source for words that are refused, or
     // a store where no script was taken.
     ensures quiet { outcomes.IfNotWritten result (output.new ≡ output.old) }
@@ -63,8 +63,8 @@ pub fn run_top<I: Source, O: Sink, S: NodeStore>(
     ensures source { source_rests.LeavesSource (I.content input.old) (I.content input.new) result }
 
     // The headline: what was written is faithful to one history and hands out once, and the stores keep that history.
-    ensures headline { matching.AreTelling (matching.states_of S.told S.needs_load stores.old.items) → outcomes.IfEnded result (λ end. IfSome (I.content input.old)
-        (λ content. outcomes.StandsBy (answers.form_asked (map string_bytes words.now)) (answers.judged (outcomes.input_bytes content)) (matching.states_of S.told S.needs_load stores.new.items) (O.content output.old) (O.content output.new) end)) }
+    ensures headline { matching.AreTelling (matching.store_states_of S.told S.needs_load stores.old.items) → outcomes.IfEnded result (λ end. IfSome (I.content input.old)
+        (λ content. outcomes.StandsBy (answers.form_asked (map string_bytes words.now)) (answers.judged (outcomes.input_bytes content)) (matching.store_states_of S.told S.needs_load stores.new.items) (O.content output.old) (O.content output.new) end)) }
 {
     let written = match report(alloc, words, input, stores, filters) {
         Ok(written) => written,

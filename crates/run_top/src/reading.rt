@@ -21,7 +21,7 @@ use watch_hooks::Filters;
 
 /// Accepts the command `run`, and no other yet. Answers whether the report is asked for as JSON.
 fn accept(alloc: Global, words: &[String]) -> Result<bool, WordsRefused>
-    ensures { outcomes.Takes (answers.form_asked (map string_bytes words.now)) result }
+    ensures { outcomes.TakesWords (answers.form_asked (map string_bytes words.now)) result }
 {
     match command_of(alloc, words)? {
         Command::Run { json } => Ok(json),
@@ -58,9 +58,9 @@ pub fn report<I: Source, S: NodeStore>(
     ensures read_fault { IsErrOf result Refused.ReadFault → counts.Rose (I.faults input.old) (I.faults input.new) }
     ensures refused { IfErr result (λ e. IfSome (I.content input.old) (λ content. outcomes.RefusesScript S.told S.needs_load S.faults stores.old.items stores.new.items (answers.judged (outcomes.input_bytes content)) e)) }
     ensures unopened { IfErr result (λ e. outcomes.LeavesStores e (stores.new ≡ stores.old)) }
-    ensures reports { matching.AreTelling (matching.states_of S.told S.needs_load stores.old.items) → IfOk result (λ w. IfSome (I.content input.old)
-        (λ content. outcomes.ReportsAsked (answers.form_asked (map string_bytes words.now)) (answers.judged (outcomes.input_bytes content)) (matching.states_of S.told S.needs_load stores.new.items) (string_bytes w.text) w.end)) }
-    ensures taken { IfOk result (λ w. IfSome (I.content input.old) (λ content. outcomes.IsTaken (answers.judged (outcomes.input_bytes content)))) }
+    ensures reports { matching.AreTelling (matching.store_states_of S.told S.needs_load stores.old.items) → IfOk result (λ w. IfSome (I.content input.old)
+        (λ content. outcomes.ReportsAsked (answers.form_asked (map string_bytes words.now)) (answers.judged (outcomes.input_bytes content)) (matching.store_states_of S.told S.needs_load stores.new.items) (string_bytes w.text) w.end)) }
+    ensures taken { IfOk result (λ w. IfSome (I.content input.old) (λ content. outcomes.ScriptIsTaken (answers.judged (outcomes.input_bytes content)))) }
 {
     let json = accept(alloc, words)?;
     let bytes = read_up_to(alloc, input, MAX_SCRIPT + 1)?;

@@ -34,8 +34,8 @@ fn run_opened<S: NodeStore>(
     requires low { 1 ≤ script.now.timeout }
     requires high { script.now.timeout ≤ MAX_TIMEOUT }
     requires enough { script.now.nodes ≤ length stores.old.items }
-    ensures ran { matching.AreTelling (matching.states_of S.told S.needs_load stores.old.items)
-        → IfOk result (script_runs.RunsScript script.now (matching.states_of S.told S.needs_load stores.new.items)) }
+    ensures ran { matching.AreTelling (matching.store_states_of S.told S.needs_load stores.old.items)
+        → IfOk result (script_runs.RunsScript script.now (matching.store_states_of S.told S.needs_load stores.new.items)) }
     ensures refused { IfErr result (opened.Refuses S.told S.needs_load S.faults script.now.nodes stores.old.items stores.new.items) }
 {
     open_stores(stores, script.nodes)?;
@@ -77,8 +77,8 @@ pub fn report_of_script<S: NodeStore>(
     requires low { 1 ≤ script.now.timeout }
     requires high { script.now.timeout ≤ MAX_TIMEOUT }
     requires enough { script.now.nodes ≤ length stores.old.items }
-    ensures reports { matching.AreTelling (matching.states_of S.told S.needs_load stores.old.items)
-        → IfOk result (λ w. report_forms.ReportsRun (report_forms.report_in json) script.now (matching.states_of S.told S.needs_load stores.new.items) (string_bytes w.text) w.end) }
+    ensures reports { matching.AreTelling (matching.store_states_of S.told S.needs_load stores.old.items)
+        → IfOk result (λ w. report_forms.ReportsRun (report_forms.report_in json) script.now (matching.store_states_of S.told S.needs_load stores.new.items) (string_bytes w.text) w.end) }
     ensures refused { IfErr result (opened.Refuses S.told S.needs_load S.faults script.now.nodes stores.old.items stores.new.items) }
 {
     let ran = run_opened(alloc, script, stores, filters)?;

@@ -45,7 +45,7 @@ makes line before after made false m = λ w works rest h. record {
   due = record { line = line; step = made; left = rest };
   next = refl;
   at = refl;
-  full = subst carrying.IsFull (sym m.0) m.1;
+  full = subst carrying.IsAtLimit (sym m.0) m.1;
 }
 
 -- nothing more is to be delivered
@@ -58,7 +58,7 @@ rests line s none = λ w works rest h. record {
 }
 
 -- one delivery, behind which all others come
-pub delivers : (before after : carrying.RunSoFar) (number : ℕ) → worlds.flush_next before.world ≡ Some number → carrying.Makes before (step.Deliver number) after true → carrying.LeadsOn before after
+pub delivers : (before after : carrying.RunSoFar) (number : ℕ) → worlds.flush_next before.world ≡ Some number → carrying.Makes before (step.Deliver number) after true → carrying.DeliversOn before after
 delivers before after number up m = λ line last went later w works rest h.
     later w works rest (subst (λ s. carrying.IsRunSoFar w works s (record { line = line; job = runs.Deliver_all } ∷ rest)) (sym m.0.same)
     (stepped w works (record { line = line; job = runs.Deliver_all } ∷ rest) before (carrying.made_so (step.Deliver number) m.0.outcome) h.shown
@@ -77,13 +77,13 @@ stops line before after number up m = λ w works rest h. record {
   due = record { line = line; step = step.Deliver number; left = record { line = line; job = runs.Deliver_all } ∷ rest };
   next = subst (λ (s : carrying.RunSoFar). runs.next_of s.world (record { line = line; job = runs.Deliver_all } ∷ rest) ≡ Some (record { line = line; step = step.Deliver number; left = record { line = line; job = runs.Deliver_all } ∷ rest })) (sym m.0) (due_delivery before.world line number rest up);
   at = refl;
-  full = subst carrying.IsFull (sym m.0) m.1;
+  full = subst carrying.IsAtLimit (sym m.0) m.1;
 }
 
-pub leads_by_none : (s : carrying.RunSoFar) → carrying.LeadsOn s s
+pub leads_by_none : (s : carrying.RunSoFar) → carrying.DeliversOn s s
 leads_by_none s = λ line after went later. later
 
-pub leads_further : (a b c : carrying.RunSoFar) → carrying.LeadsOn a b → carrying.LeadsOn b c → carrying.LeadsOn a c
+pub leads_further : (a b c : carrying.RunSoFar) → carrying.DeliversOn a b → carrying.DeliversOn b c → carrying.DeliversOn a c
 leads_further a b c f g = λ line after went later. f line after went (g line after went later)
 
 -- jobs behind jobs
@@ -163,15 +163,15 @@ one_more n m e l = rw (e) l
 
 -- ---- by what a call answered
 
-pub delivered_on : (before mid : carrying.RunSoFar) (number : ℕ) (went : Bool) (start : carrying.RunSoFar) → carrying.LeadsOn start before → worlds.flush_next before.world ≡ Some number
-    → went ≡ true → carrying.Makes before (step.Deliver number) mid went → carrying.LeadsOn start mid
+pub delivered_on : (before mid : carrying.RunSoFar) (number : ℕ) (went : Bool) (start : carrying.RunSoFar) → carrying.DeliversOn start before → worlds.flush_next before.world ≡ Some number
+    → went ≡ true → carrying.Makes before (step.Deliver number) mid went → carrying.DeliversOn start mid
 delivered_on before mid number went start leads up e m = leads_further start before mid leads (delivers before mid number up (subst (carrying.Makes before (step.Deliver number) mid) e m))
 
-pub delivery_stops : (before after : carrying.RunSoFar) (number : ℕ) (went : Bool) (start : carrying.RunSoFar) (line : ℕ) → carrying.LeadsOn start before → worlds.flush_next before.world ≡ Some number
+pub delivery_stops : (before after : carrying.RunSoFar) (number : ℕ) (went : Bool) (start : carrying.RunSoFar) (line : ℕ) → carrying.DeliversOn start before → worlds.flush_next before.world ≡ Some number
     → went ≡ false → carrying.Makes before (step.Deliver number) after went → carrying.Carries line (runs.Deliver_all ∷ []) start after false
 delivery_stops before after number went start line leads up e m = leads line after false (stops line before after number up (subst (carrying.Makes before (step.Deliver number) after) e m))
 
-pub deliveries_end : (start now : carrying.RunSoFar) (line : ℕ) → carrying.LeadsOn start now → worlds.flush_next now.world ≡ None → carrying.Carries line (runs.Deliver_all ∷ []) start now true
+pub deliveries_end : (start now : carrying.RunSoFar) (line : ℕ) → carrying.DeliversOn start now → worlds.flush_next now.world ≡ None → carrying.Carries line (runs.Deliver_all ∷ []) start now true
 deliveries_end start now line leads none = leads line now true (rests line now none)
 
 pub made_then : (line : ℕ) (before mid after : carrying.RunSoFar) (made : Step) (jobs : List runs.Job) (first went : Bool) → first ≡ true → carrying.Makes before made mid first

@@ -41,13 +41,13 @@ pub record IsOneStep (before : RunSoFar) (step : Step) (after : RunSoFar) : Type
   pub same : after ≡ stepped_with before (made_so step outcome)
 
 -- as many steps were made as a run may have
-abbrev pub IsFull : RunSoFar → Type 0
-IsFull s = length s.kept ≡ MAX_STEPS
+abbrev pub IsAtLimit : RunSoFar → Type 0
+IsAtLimit s = length s.kept ≡ MAX_STEPS
 
 -- a step was made, or none, since the run is full
 abbrev pub Makes : RunSoFar → Step → RunSoFar → Bool → Type 0
 Makes before step after true = IsOneStep before step after × (length after.kept ≤ MAX_STEPS)
-Makes before step after false = (after ≡ before) × IsFull before
+Makes before step after false = (after ≡ before) × IsAtLimit before
 
 -- the run is full, and the next step that is due is of this line
 pub record StopsAt (w : worlds.World) (works : List runs.Work) (s : RunSoFar) (line : ℕ) : Type 0 where
@@ -56,7 +56,7 @@ pub record StopsAt (w : worlds.World) (works : List runs.Work) (s : RunSoFar) (l
   pub due : runs.Next
   pub next : runs.next_of s.world rest ≡ Some due
   pub at : due.line ≡ line
-  pub full : IsFull s
+  pub full : IsAtLimit s
 
 -- the jobs before these were carried out, or the run stopped in this line
 abbrev pub Carried : worlds.World → List runs.Work → RunSoFar → ℕ → List runs.Work → Bool → Type 0
@@ -72,8 +72,8 @@ Carries line jobs before after went = (w : worlds.World) (works rest : List runs
     → IsRunSoFar w works before (works_at line jobs ++ rest) → Carried w works after line rest went
 
 -- deliveries so far: whatever the deliveries that come lead to, all of them lead to
-abbrev pub LeadsOn : RunSoFar → RunSoFar → Type 0
-LeadsOn before now = (line : ℕ) (after : RunSoFar) (went : Bool)
+abbrev pub DeliversOn : RunSoFar → RunSoFar → Type 0
+DeliversOn before now = (line : ℕ) (after : RunSoFar) (went : Bool)
     → Carries line (runs.Deliver_all ∷ []) now after went → Carries line (runs.Deliver_all ∷ []) before after went
 
 -- lines of a script were run, or the run stopped at one of them

@@ -18,14 +18,14 @@ abbrev pub so_far : open_worlds.OpenWorld → carrying.RunSoFar
 so_far w = record { world = w.world; kept = w.kept; transcript = w.transcript }
 
 -- a further step may be asked for
-pub record IsReady (w : open_worlds.OpenWorld) (states : List matching.StoreState) : Type 0 where
+pub record MayGoOn (w : open_worlds.OpenWorld) (states : List matching.StoreState) : Type 0 where
   pub whole : w.is_spent ≡ false
   pub within : length w.kept ≤ MAX_STEPS
   pub matches : matching.StoresMatch w.world.hosts states
 
 -- after a call a further one may be made, and stores that told tell
 pub record StaysReady (states : List matching.StoreState) (w : open_worlds.OpenWorld) (now : List matching.StoreState) : Type 0 where
-  pub ready : IsReady w now
+  pub ready : MayGoOn w now
   pub telling : matching.AreTelling states → matching.AreTelling now
 
 abbrev pub beat_jobs : ℕ → List runs.Job

@@ -18,10 +18,10 @@ fn make<S: NodeStore>(
     made: &Step,
     filters: &Filters,
 ) -> Result<bool, NoMemory>
-    requires ready { in_code.IsReady world.old (matching.states_of S.told S.needs_load stores.old.items) }
-    ensures makes { matching.AreTelling (matching.states_of S.told S.needs_load stores.old.items)
+    requires ready { in_code.MayGoOn world.old (matching.store_states_of S.told S.needs_load stores.old.items) }
+    ensures makes { matching.AreTelling (matching.store_states_of S.told S.needs_load stores.old.items)
         → IfOk result (λ went. carrying.Makes (in_code.so_far world.old) made.now (in_code.so_far world.new) went) }
-    ensures ready { OnOk result (in_code.StaysReady (matching.states_of S.told S.needs_load stores.old.items) world.new (matching.states_of S.told S.needs_load stores.new.items)) }
+    ensures ready { OnOk result (in_code.StaysReady (matching.store_states_of S.told S.needs_load stores.old.items) world.new (matching.store_states_of S.told S.needs_load stores.new.items)) }
     ensures grows { IfOk result (λ went. went ≡ true → length world.new.kept ≡ length world.old.kept + 1) }
 {
     if world.kept().len() as u64 >= MAX_STEPS {
@@ -38,10 +38,10 @@ fn deliver<S: NodeStore>(
     number: u64,
     filters: &Filters,
 ) -> Result<bool, NoMemory>
-    requires ready { in_code.IsReady world.old (matching.states_of S.told S.needs_load stores.old.items) }
-    ensures makes { matching.AreTelling (matching.states_of S.told S.needs_load stores.old.items)
+    requires ready { in_code.MayGoOn world.old (matching.store_states_of S.told S.needs_load stores.old.items) }
+    ensures makes { matching.AreTelling (matching.store_states_of S.told S.needs_load stores.old.items)
         → IfOk result (λ went. carrying.Makes (in_code.so_far world.old) (step.Deliver number) (in_code.so_far world.new) went) }
-    ensures ready { OnOk result (in_code.StaysReady (matching.states_of S.told S.needs_load stores.old.items) world.new (matching.states_of S.told S.needs_load stores.new.items)) }
+    ensures ready { OnOk result (in_code.StaysReady (matching.store_states_of S.told S.needs_load stores.old.items) world.new (matching.store_states_of S.told S.needs_load stores.new.items)) }
     ensures grows { IfOk result (λ went. went ≡ true → length world.new.kept ≡ length world.old.kept + 1) }
 {
     make(world, stores, &Step::Deliver { number }, filters)
@@ -54,10 +54,10 @@ fn beat<S: NodeStore>(
     node: NodeId,
     filters: &Filters,
 ) -> Result<bool, NoMemory>
-    requires ready { in_code.IsReady world.old (matching.states_of S.told S.needs_load stores.old.items) }
-    ensures makes { matching.AreTelling (matching.states_of S.told S.needs_load stores.old.items)
+    requires ready { in_code.MayGoOn world.old (matching.store_states_of S.told S.needs_load stores.old.items) }
+    ensures makes { matching.AreTelling (matching.store_states_of S.told S.needs_load stores.old.items)
         → IfOk result (λ went. carrying.Makes (in_code.so_far world.old) (step.Beat node) (in_code.so_far world.new) went) }
-    ensures ready { OnOk result (in_code.StaysReady (matching.states_of S.told S.needs_load stores.old.items) world.new (matching.states_of S.told S.needs_load stores.new.items)) }
+    ensures ready { OnOk result (in_code.StaysReady (matching.store_states_of S.told S.needs_load stores.old.items) world.new (matching.store_states_of S.told S.needs_load stores.new.items)) }
     ensures grows { IfOk result (λ went. went ≡ true → length world.new.kept ≡ length world.old.kept + 1) }
 {
     make(world, stores, &Step::Beat { node }, filters)
@@ -70,10 +70,10 @@ fn deliver_all<S: NodeStore>(
     stores: &mut Vec<S>,
     filters: &Filters,
 ) -> Result<bool, NoMemory>
-    requires ready { in_code.IsReady world.old (matching.states_of S.told S.needs_load stores.old.items) }
-    ensures carries { matching.AreTelling (matching.states_of S.told S.needs_load stores.old.items)
+    requires ready { in_code.MayGoOn world.old (matching.store_states_of S.told S.needs_load stores.old.items) }
+    ensures carries { matching.AreTelling (matching.store_states_of S.told S.needs_load stores.old.items)
         → IfOk result (in_code.CarriesOut (runs.Deliver_all ∷ []) world.old world.new) }
-    ensures ready { OnOk result (in_code.StaysReady (matching.states_of S.told S.needs_load stores.old.items) world.new (matching.states_of S.told S.needs_load stores.new.items)) }
+    ensures ready { OnOk result (in_code.StaysReady (matching.store_states_of S.told S.needs_load stores.old.items) world.new (matching.store_states_of S.told S.needs_load stores.new.items)) }
 {
     'packets: while let Some(number) = world.flush_next() {
         if !deliver(world, stores, number, filters)? {
@@ -90,10 +90,10 @@ fn beat_and_deliver<S: NodeStore>(
     node: NodeId,
     filters: &Filters,
 ) -> Result<bool, NoMemory>
-    requires ready { in_code.IsReady world.old (matching.states_of S.told S.needs_load stores.old.items) }
-    ensures carries { matching.AreTelling (matching.states_of S.told S.needs_load stores.old.items)
+    requires ready { in_code.MayGoOn world.old (matching.store_states_of S.told S.needs_load stores.old.items) }
+    ensures carries { matching.AreTelling (matching.store_states_of S.told S.needs_load stores.old.items)
         → IfOk result (in_code.CarriesOut (in_code.beat_jobs node) world.old world.new) }
-    ensures ready { OnOk result (in_code.StaysReady (matching.states_of S.told S.needs_load stores.old.items) world.new (matching.states_of S.told S.needs_load stores.new.items)) }
+    ensures ready { OnOk result (in_code.StaysReady (matching.store_states_of S.told S.needs_load stores.old.items) world.new (matching.store_states_of S.told S.needs_load stores.new.items)) }
 {
     if !beat(world, stores, node, filters)? {
         return Ok(false);
@@ -109,10 +109,10 @@ fn settle<S: NodeStore>(
     node: NodeId,
     filters: &Filters,
 ) -> Result<bool, NoMemory>
-    requires ready { in_code.IsReady world.old (matching.states_of S.told S.needs_load stores.old.items) }
-    ensures carries { matching.AreTelling (matching.states_of S.told S.needs_load stores.old.items)
+    requires ready { in_code.MayGoOn world.old (matching.store_states_of S.told S.needs_load stores.old.items) }
+    ensures carries { matching.AreTelling (matching.store_states_of S.told S.needs_load stores.old.items)
         → IfOk result (in_code.CarriesOut (in_code.settle_jobs node) world.old world.new) }
-    ensures ready { OnOk result (in_code.StaysReady (matching.states_of S.told S.needs_load stores.old.items) world.new (matching.states_of S.told S.needs_load stores.new.items)) }
+    ensures ready { OnOk result (in_code.StaysReady (matching.store_states_of S.told S.needs_load stores.old.items) world.new (matching.store_states_of S.told S.needs_load stores.new.items)) }
 {
     if !deliver_all(world, stores, filters)? {
         return Ok(false);
@@ -130,10 +130,10 @@ fn run_line<S: NodeStore>(
     line: &Line,
     filters: &Filters,
 ) -> Result<bool, NoMemory>
-    requires ready { in_code.IsReady world.old (matching.states_of S.told S.needs_load stores.old.items) }
-    ensures carries { matching.AreTelling (matching.states_of S.told S.needs_load stores.old.items)
+    requires ready { in_code.MayGoOn world.old (matching.store_states_of S.told S.needs_load stores.old.items) }
+    ensures carries { matching.AreTelling (matching.store_states_of S.told S.needs_load stores.old.items)
         → IfOk result (in_code.CarriesOut (runs.jobs_of line.now) world.old world.new) }
-    ensures ready { OnOk result (in_code.StaysReady (matching.states_of S.told S.needs_load stores.old.items) world.new (matching.states_of S.told S.needs_load stores.new.items)) }
+    ensures ready { OnOk result (in_code.StaysReady (matching.store_states_of S.told S.needs_load stores.old.items) world.new (matching.store_states_of S.told S.needs_load stores.new.items)) }
 {
     match line {
         Line::Do(step) => make(world, stores, step, filters),
@@ -149,10 +149,10 @@ pub(crate) fn run_lines<S: NodeStore>(
     lines: &[(u64, Line)],
     filters: &Filters,
 ) -> Result<RunEnd, NoMemory>
-    requires ready { in_code.IsReady world.old (matching.states_of S.told S.needs_load stores.old.items) }
-    ensures runs { matching.AreTelling (matching.states_of S.told S.needs_load stores.old.items)
+    requires ready { in_code.MayGoOn world.old (matching.store_states_of S.told S.needs_load stores.old.items) }
+    ensures runs { matching.AreTelling (matching.store_states_of S.told S.needs_load stores.old.items)
         → IfOk result (in_code.EndsLines lines.now world.old world.new) }
-    ensures ready { OnOk result (in_code.StaysReady (matching.states_of S.told S.needs_load stores.old.items) world.new (matching.states_of S.told S.needs_load stores.new.items)) }
+    ensures ready { OnOk result (in_code.StaysReady (matching.store_states_of S.told S.needs_load stores.old.items) world.new (matching.store_states_of S.told S.needs_load stores.new.items)) }
 {
     'lines: for entry in lines {
         if !run_line(world, stores, &entry.1, filters)? {

@@ -32,9 +32,9 @@ pub fn run_script<S: NodeStore>(
     requires clients { script.now.clients ≤ MAX_CLIENTS }
     requires low { 1 ≤ script.now.timeout }
     requires high { script.now.timeout ≤ MAX_TIMEOUT }
-    requires stores { matching.StoresMatch (script_runs.world_of_script script.now).hosts (matching.states_of S.told S.needs_load stores.old.items) }
-    ensures ran { matching.AreTelling (matching.states_of S.told S.needs_load stores.old.items)
-        → IfOk result (script_runs.RunsScript script.now (matching.states_of S.told S.needs_load stores.new.items)) }
+    requires stores { matching.StoresMatch (script_runs.world_of_script script.now).hosts (matching.store_states_of S.told S.needs_load stores.old.items) }
+    ensures ran { matching.AreTelling (matching.store_states_of S.told S.needs_load stores.old.items)
+        → IfOk result (script_runs.RunsScript script.now (matching.store_states_of S.told S.needs_load stores.new.items)) }
 {
     let mut world = World::open(alloc, script.nodes, script.clients, script.timeout)?;
     let end = run_lines(&mut world, stores, script.lines.as_slice(), filters)?;

@@ -8,4 +8,5 @@ mod steps;
 mod texts;
 
 pub use scripts::{ScriptRefused, read_script};
+pub use steps::watch_kind;
 pub use texts::write_step;

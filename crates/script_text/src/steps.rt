@@ -72,7 +72,8 @@ fn client_and_node(words: &[&[u8]], sizes: Sizes) -> Option<(ClientId, NodeId)>
     }
 }
 
-fn watch_kind(word: &[u8]) -> Option<WatchKind>
+/// What a watch is of; `None` exactly where the word is none of `all`, `changes` and `grants`.
+pub fn watch_kind(word: &[u8]) -> Option<WatchKind>
     ensures { result ≡ step_lines.watch_kind_of word.now }
 {
     if is(word, "all") {

@@ -1,2 +1,2 @@
-//! How bytes are read as packets and entries, with lemmas that tie reading to spelling.
+//! How bytes are read as packets and entries, as definitions.
 #![tactic(auto)]

@@ -1,2 +1,2 @@
-//! The language of scripts: how steps and lines are read and written, and how bytes are read as a script. Definitions and their laws.
+//! The language of scripts, as definitions: how steps and lines are read and written, and how bytes are read as a script.
 #![tactic(auto)]

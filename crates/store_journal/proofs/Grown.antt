@@ -3,7 +3,7 @@ use Rattle.std.proofs.Common.{◌≡◌, ℕ, ◌+◌, ◌-◌, ◌<◌, ◌≤�
 use Rattle.std.proofs.lemmas.Bool.{cases_lt}
 use Rattle.std.proofs.lemmas.List.{append-nil, take_at, take-append-drop, length-append, length-drop, get_or_append_left, get_or-append_right}
 use Rattle.spec_reading.specs.Reading as reading
-use Rattle.spec_reading.proofs.Fields.{IsBytes-take}
+use Rattle.law_reading.proofs.Fields.{IsBytes-take}
 use Rattle.spec_journal.specs.Records as journal_records
 use Rattle.spec_journal.specs.Journal as journals
 use Rattle.law_journal.specs.Appends as appends

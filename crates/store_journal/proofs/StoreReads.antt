@@ -12,7 +12,7 @@ use Rattle.ax_types.specs.declared.refusals.StoreError.TheVariants as store_erro
 use Rattle.ax_io.specs.Content as contents
 use Rattle.spec_wire.specs.Ranges as ranges
 use Rattle.spec_reading.specs.Reading as reading
-use Rattle.spec_reading.proofs.Fields.{IsBytes-take}
+use Rattle.law_reading.proofs.Fields.{IsBytes-take}
 use Rattle.spec_journal.specs.Records as journal_records
 use Rattle.spec_journal.specs.Journal as journals
 use Rattle.law_journal.specs.Appends as appends

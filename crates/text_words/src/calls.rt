@@ -10,7 +10,8 @@ use crate::queries::question;
 use ax_types::{Level, Name, NoMemory, Op, Query, WindowCall};
 use std::alloc::Global;
 
-fn level(word: &[u8]) -> Option<Level>
+/// The level of a query; `None` exactly where the word is neither `seq` nor `lin`.
+pub fn level(word: &[u8]) -> Option<Level>
     ensures { result ≡ operation_words.level_of word.now }
 {
     if is(word, "seq") {

@@ -7,6 +7,6 @@ mod operands;
 mod operations;
 mod queries;
 
-pub use calls::{call, command_call, leveled_call};
+pub use calls::{call, command_call, level, leveled_call};
 pub use numbers::{client, life, node, number, packet_number, signed, time, timeout};
-pub use operands::{is, without_operands};
+pub use operands::{is, key_and_text, name, only_key, only_signed, only_text, without_operands};

@@ -41,6 +41,7 @@ pub fn without_operands<T: Drop>(value: T, words: &[&[u8]]) -> Option<T>
     if words.is_empty() { Some(value) } else { None }
 }
 
+/// The key of a single word; `None` exactly where it is no key, or there are more or fewer words.
 pub fn only_key(alloc: Global, words: &[&[u8]]) -> Result<Option<Key>, NoMemory>
     ensures { IfOk result (λ read. read ≡ operation_words.only_key (behind.words_behind words.now)) }
 {
@@ -50,6 +51,7 @@ pub fn only_key(alloc: Global, words: &[&[u8]]) -> Result<Option<Key>, NoMemory>
     }
 }
 
+/// The text of a single word; `None` exactly where it is no text, or there are more or fewer words.
 pub fn only_text(alloc: Global, words: &[&[u8]]) -> Result<Option<Text>, NoMemory>
     ensures { IfOk result (λ read. read ≡ operation_words.only_text (behind.words_behind words.now)) }
 {
@@ -59,6 +61,7 @@ pub fn only_text(alloc: Global, words: &[&[u8]]) -> Result<Option<Text>, NoMemor
     }
 }
 
+/// The signed number of a single word; `None` exactly where it is none, or there are more or fewer words.
 pub fn only_signed(words: &[&[u8]]) -> Option<i64>
     ensures { result ≡ operation_words.only_signed (behind.words_behind words.now) }
 {
@@ -86,6 +89,7 @@ fn pair_of_key_and_text(alloc: Global, k: &[u8], v: &[u8]) -> Result<Option<(Key
     }
 }
 
+/// The key and the text of two words; `None` exactly where the words are not these two.
 pub fn key_and_text(alloc: Global, words: &[&[u8]]) -> Result<Option<(Key, Text)>, NoMemory>
     ensures { IfOk result (λ read. read ≡ operation_words.key_and_text (behind.words_behind words.now)) }
 {

@@ -30,7 +30,7 @@ may_here t k i hs spent h now input v e g m =
     (subst (λ (s : plans.OpenHosts). plans.MayServe k (length s.hosts) (lists.at_place s.hosts k) input) (sym v) m))
 
 pub may_there : (t k i : ℕ) (hs : List Host) (up : List Bool) (spent : Bool) (h : Host) (now : plans.OpenHosts) (input : ServerInput) → places.view_of t hs spent ≡ now → suc i ≡ k → slice_get hs i ≡ Some h → views.IsReady hs up
-    → plans.MayServe k (length now.hosts) (lists.at_place now.hosts k) input → host_steps.MayServe h.standing input
+    → plans.MayServe k (length now.hosts) (lists.at_place now.hosts k) input → host_steps.MayBeServed h.standing input
 may_there t k i hs up spent h now input v e g r m =
     may_serve (length hs) t k h input (places.whole_at hs i h r.whole g) (places.number_at (length hs) k i hs h e r.numbers g) (may_here t k i hs spent h now input v e g m)
 

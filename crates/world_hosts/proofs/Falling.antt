@@ -11,6 +11,6 @@ use Rattle.world_hosts.specs.declared.served.Served.{Served}
 use Rattle.world_hosts.specs.declared.served.Served.TheVariants as serving
 
 pub fell : (old : Host) (out : ServerOut) (r : Replaced) (new : Host) (before now : stores.Told) (needs_load : Bool) (call : SaveCall) (served : Served)
-    → chains.FailsAt out.saves call before now → host_steps.FallsAt old out.saves r new call served → host_steps.Keeps old out r new before now needs_load served
+    → chains.FailsAt out.saves call before now → host_steps.FallsAt old out.saves r new call served → host_steps.KeepsOrFalls old out r new before now needs_load served
 fell old out r new before now needs_load call (serving.Fine answer) f h = absurd h
 fell old out r new before now needs_load call (serving.Failed saved) f h = record { call = call; fails = f; falls = h }

@@ -60,39 +60,39 @@ pub nodes_up_are : (n t : ℕ) (hs : List Host) (up : List Bool) → up ≡ map 
 nodes_up_are n t hs up e = ap reasons.nodes_up e ∙ up_from n t 1 hs
 
 -- what holds of all but one holds of all where it holds of the new one
-pub whole_set : (hs : List Host) (i : ℕ) (h : Host) → AllByRecursion (λ x. views.IsWhole x.standing) hs → views.IsWhole h.standing → AllByRecursion (λ x. views.IsWhole x.standing) (set hs i h)
+pub whole_set : (hs : List Host) (i : ℕ) (h : Host) → AllByRecursion (λ x. views.StandsWhole x.standing) hs → views.StandsWhole h.standing → AllByRecursion (λ x. views.StandsWhole x.standing) (set hs i h)
 whole_set [] i h a w = a
 whole_set (x ∷ hs) zero h a w = (w, a.1)
 whole_set (x ∷ hs) (suc i) h a w = (a.0, whole_set hs i h a.1 w)
 
-pub whole_at : (hs : List Host) (i : ℕ) (h : Host) → AllByRecursion (λ x. views.IsWhole x.standing) hs → slice_get hs i ≡ Some h → views.IsWhole h.standing
+pub whole_at : (hs : List Host) (i : ℕ) (h : Host) → AllByRecursion (λ x. views.StandsWhole x.standing) hs → slice_get hs i ≡ Some h → views.StandsWhole h.standing
 whole_at [] i h a g = cc
-whole_at (x ∷ hs) zero h a g = subst (λ (y : Host). views.IsWhole y.standing) (same_some x h g) a.0
+whole_at (x ∷ hs) zero h a g = subst (λ (y : Host). views.StandsWhole y.standing) (same_some x h g) a.0
 whole_at (x ∷ hs) (suc i) h a g = whole_at hs i h a.1 g
 
-numbered_from : (n k i j : ℕ) (hs : List Host) (h : Host) → j ≡ k + i → views.AreNumbered n k hs → slice_get hs i ≡ Some h → views.HasNumber n j h.standing
+numbered_from : (n k i j : ℕ) (hs : List Host) (h : Host) → j ≡ k + i → views.HostsAreNumbered n k hs → slice_get hs i ≡ Some h → views.KnowsNumber n j h.standing
 numbered_from n k i j [] h e a g = cc
-numbered_from n k zero j (x ∷ hs) h e a g = subst (λ m. views.HasNumber n m h.standing) (omega (arith, e)) (subst (λ (y : Host). views.HasNumber n k y.standing) (same_some x h g) a.0)
+numbered_from n k zero j (x ∷ hs) h e a g = subst (λ m. views.KnowsNumber n m h.standing) (omega (arith, e)) (subst (λ (y : Host). views.KnowsNumber n k y.standing) (same_some x h g) a.0)
 numbered_from n k (suc i) j (x ∷ hs) h e a g = numbered_from n (suc k) i j hs h (omega (arith, e)) a.1 g
 
-pub number_at : (n k i : ℕ) (hs : List Host) (h : Host) → suc i ≡ k → views.AreNumbered n 1 hs → slice_get hs i ≡ Some h → views.HasNumber n k h.standing
+pub number_at : (n k i : ℕ) (hs : List Host) (h : Host) → suc i ≡ k → views.HostsAreNumbered n 1 hs → slice_get hs i ≡ Some h → views.KnowsNumber n k h.standing
 number_at n k i hs h e a g = numbered_from n 1 i k hs h (omega (arith, e)) a g
 
-numbered_set_from : (n k i j : ℕ) (hs : List Host) (h : Host) → j ≡ k + i → views.AreNumbered n k hs → views.HasNumber n j h.standing → views.AreNumbered n k (set hs i h)
+numbered_set_from : (n k i j : ℕ) (hs : List Host) (h : Host) → j ≡ k + i → views.HostsAreNumbered n k hs → views.KnowsNumber n j h.standing → views.HostsAreNumbered n k (set hs i h)
 numbered_set_from n k i j [] h e a w = a
-numbered_set_from n k zero j (x ∷ hs) h e a w = (subst (λ m. views.HasNumber n m h.standing) (omega (arith, e)) w, a.1)
+numbered_set_from n k zero j (x ∷ hs) h e a w = (subst (λ m. views.KnowsNumber n m h.standing) (omega (arith, e)) w, a.1)
 numbered_set_from n k (suc i) j (x ∷ hs) h e a w = (a.0, numbered_set_from n (suc k) i j hs h (omega (arith, e)) a.1 w)
 
-pub numbered_set : (n k i : ℕ) (hs : List Host) (h : Host) → suc i ≡ k → views.AreNumbered n 1 hs → views.HasNumber n k h.standing → views.AreNumbered n 1 (set hs i h)
+pub numbered_set : (n k i : ℕ) (hs : List Host) (h : Host) → suc i ≡ k → views.HostsAreNumbered n 1 hs → views.KnowsNumber n k h.standing → views.HostsAreNumbered n 1 (set hs i h)
 numbered_set n k i hs h e a w = numbered_set_from n 1 i k hs h (omega (arith, e)) a w
 
 -- the flags and the servers after a change of one node
-pub ready_set : (k i : ℕ) (hs : List Host) (up : List Bool) (h : Host) (b : Bool) → suc i ≡ k → views.IsReady hs up → b ≡ views.stands_up h.standing → views.IsWhole h.standing → views.HasNumber (length hs) k h.standing
+pub ready_set : (k i : ℕ) (hs : List Host) (up : List Bool) (h : Host) (b : Bool) → suc i ≡ k → views.IsReady hs up → b ≡ views.stands_up h.standing → views.StandsWhole h.standing → views.KnowsNumber (length hs) k h.standing
     → views.IsReady (set hs i h) (set up i b)
 ready_set k i hs up h b e r f w n = record {
   flags = flags_set hs up i h b r.flags f;
   whole = whole_set hs i h r.whole w;
-  numbers = subst (λ m. views.AreNumbered m 1 (set hs i h)) (sym (length-set hs i h)) (numbered_set (length hs) k i hs h e r.numbers n);
+  numbers = subst (λ m. views.HostsAreNumbered m 1 (set hs i h)) (sym (length-set hs i h)) (numbered_set (length hs) k i hs h e r.numbers n);
 }
 
 -- the one that leads, over those that are left
@@ -109,13 +109,13 @@ map_same f (x ∷ hs) (suc i) h new g e = ap (λ ys. f x ∷ ys) (map_same f hs 
 pub ready_same : (i : ℕ) (hs : List Host) (up : List Bool) (h new : Host) → slice_get hs i ≡ Some h → new.standing ≡ h.standing → views.IsReady hs up → views.IsReady (set hs i new) up
 ready_same i hs up h new g e r = record {
   flags = r.flags ∙ sym (map_same (λ (x : Host). views.stands_up x.standing) hs i h new g (ap views.stands_up e));
-  whole = whole_set hs i new r.whole (subst views.IsWhole (sym e) (whole_at hs i h r.whole g));
-  numbers = subst (λ m. views.AreNumbered m 1 (set hs i new)) (sym (length-set hs i new))
-      (numbered_set (length hs) (suc i) i hs new refl r.numbers (subst (views.HasNumber (length hs) (suc i)) (sym e) (number_at (length hs) (suc i) i hs h refl r.numbers g)));
+  whole = whole_set hs i new r.whole (subst views.StandsWhole (sym e) (whole_at hs i h r.whole g));
+  numbers = subst (λ m. views.HostsAreNumbered m 1 (set hs i new)) (sym (length-set hs i new))
+      (numbered_set (length hs) (suc i) i hs new refl r.numbers (subst (views.KnowsNumber (length hs) (suc i)) (sym e) (number_at (length hs) (suc i) i hs h refl r.numbers g)));
 }
 
-pub within_set : (t i : ℕ) (hs : List Host) (h : Host) → views.IsWithin (length hs) t → views.IsWithin (length (set hs i h)) t
-within_set t i hs h w = subst (λ n. views.IsWithin n t) (sym (length-set hs i h)) w
+pub within_set : (t i : ℕ) (hs : List Host) (h : Host) → views.ClusterIsWithin (length hs) t → views.ClusterIsWithin (length (set hs i h)) t
+within_set t i hs h w = subst (λ n. views.ClusterIsWithin n t) (sym (length-set hs i h)) w
 
 -- the hosts as contracts see them
 abbrev pub view_of : ℕ → List Host → Bool → plans.OpenHosts
@@ -137,12 +137,12 @@ view_after t hs spent k i h new F now v e g f =
     ∙ ap (λ (s : plans.OpenHosts). let o : plans.OpenHosts = record { timeout = s.timeout; hosts = positions.change_place (F s) s.hosts k; is_spent = s.is_spent } in o) v
 
 -- a node that falls with all that it keeps
-kept_same : (n t k : ℕ) (st : Standing) → views.kept_of st ≡ raft_nodes.kept_of (views.server_of n t k st).raft
+kept_same : (n t k : ℕ) (st : Standing) → views.kept_for_sure st ≡ raft_nodes.kept_of (views.server_of n t k st).raft
 kept_same n t k (standing.Up s) = refl
 kept_same n t k (standing.Down kept es) = refl
 
 pub fallen_is : (t k : ℕ) (hs : List Host) (spent : Bool) (h : Host)
-    → views.host_of (length hs) t k (record { clock = h.clock; standing = standing.Down (views.kept_of h.standing) [] }) ≡ plans.fallen_in (view_of t hs spent) k (views.host_of (length hs) t k h)
+    → views.host_of (length hs) t k (record { clock = h.clock; standing = standing.Down (views.kept_for_sure h.standing) [] }) ≡ plans.fallen_in (view_of t hs spent) k (views.host_of (length hs) t k h)
 fallen_is t k hs spent h =
     ap (λ kept. let m : worlds.Host = record { is_up = false; clock = h.clock; server = servers.server_from k (length hs) t kept; at_stake = [] } in m) (kept_same (length hs) t k h.standing)
     ∙ ap (λ n. let m : worlds.Host = record { is_up = false; clock = h.clock; server = servers.server_from k n t (raft_nodes.kept_of (views.server_of (length hs) t k h.standing).raft); at_stake = [] } in m) (sym (length_hosts (length hs) t 1 hs))
@@ -162,11 +162,11 @@ stake_none (standing.Up s) u = refl
 stake_none (standing.Down kept es) u = cc
 
 abbrev pub fallen : Host → Host
-fallen h = record { clock = h.clock; standing = standing.Down (views.kept_of h.standing) [] }
+fallen h = record { clock = h.clock; standing = standing.Down (views.kept_for_sure h.standing) [] }
 
 pub fallen_ready : (k i : ℕ) (hs : List Host) (up : List Bool) (h new : Host) → suc i ≡ k → new ≡ fallen h → views.IsReady hs up → views.IsReady (set hs i new) (set up i false)
 fallen_ready k i hs up h new e f r =
-    ready_set k i hs up new false e r (sym (ap (λ (x : Host). views.stands_up x.standing) f)) (subst (λ (x : Host). views.IsWhole x.standing) (sym f) tt) (subst (λ (x : Host). views.HasNumber (length hs) k x.standing) (sym f) tt)
+    ready_set k i hs up new false e r (sym (ap (λ (x : Host). views.stands_up x.standing) f)) (subst (λ (x : Host). views.StandsWhole x.standing) (sym f) tt) (subst (λ (x : Host). views.KnowsNumber (length hs) k x.standing) (sym f) tt)
 
 -- whether the node at a place is up
 pub up_at : (t k i : ℕ) (hs : List Host) (spent b : Bool) (h : Host) (now : plans.OpenHosts) → view_of t hs spent ≡ now → suc i ≡ k → slice_get hs i ≡ Some h → worlds.up_in (lists.at_place now.hosts k) ≡ b → views.stands_up h.standing ≡ b

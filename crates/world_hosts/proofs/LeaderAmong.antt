@@ -43,7 +43,7 @@ lead_is n t k term best (h ∷ hs) =
     if_same (nat_lt term (views.leading_term h.standing)) _ _ _ _ (lead_is n t (suc k) (views.leading_term h.standing) (Some k) hs) (lead_is n t (suc k) term best hs)
     ∙ one_node n t k term h.clock h.standing (λ m. worlds.leader_among (suc k) m (Some k) (views.hosts_from n t (suc k) hs)) (worlds.leader_among (suc k) term best (views.hosts_from n t (suc k) hs))
 
-pub lead_in : (t : ℕ) (hs : List Host) (spent : Bool) (now : plans.OpenHosts) → view_of t hs spent ≡ now → lead_from 1 0 None hs ≡ worlds.leader_now (plans.world_of now)
+pub lead_in : (t : ℕ) (hs : List Host) (spent : Bool) (now : plans.OpenHosts) → view_of t hs spent ≡ now → lead_from 1 0 None hs ≡ worlds.leader_now (plans.world_of_hosts now)
 lead_in t hs spent now v = lead_is (length hs) t 1 0 None hs ∙ ap (λ (s : plans.OpenHosts). worlds.leader_among 1 0 None s.hosts) v
 
 drop_at : (hs : List Host) (i : ℕ) (h : Host) → slice_get hs i ≡ Some h → drop i hs ≡ h ∷ drop (suc i) hs
@@ -70,8 +70,8 @@ pub record AreOpened (n t number : ℕ) (hs : List Host) (up : List Bool) : Type
   pub count : suc (length hs) ≡ number
   pub hosts : views.hosts_from n t 1 hs ≡ map (worlds.new_host n t) (lists.numbers_from 1 (length hs))
   pub flags : up ≡ map (λ h. views.stands_up h.standing) hs
-  pub whole : AllByRecursion (λ h. views.IsWhole h.standing) hs
-  pub numbers : views.AreNumbered n 1 hs
+  pub whole : AllByRecursion (λ h. views.StandsWhole h.standing) hs
+  pub numbers : views.HostsAreNumbered n 1 hs
 
 pub none_opened : (n t : ℕ) → AreOpened n t 1 [] []
 none_opened n t = record { count = refl; hosts = refl; flags = refl; whole = tt; numbers = tt }
@@ -88,15 +88,15 @@ map_more : (hs : List Host) (h : Host) → map (λ x. views.stands_up x.standing
 map_more [] h = refl
 map_more (x ∷ hs) h = ap (λ ys. views.stands_up x.standing ∷ ys) (map_more hs h)
 
-whole_more : (hs : List Host) (h : Host) → AllByRecursion (λ x. views.IsWhole x.standing) hs → views.IsWhole h.standing → AllByRecursion (λ x. views.IsWhole x.standing) (hs ++ h ∷ [])
+whole_more : (hs : List Host) (h : Host) → AllByRecursion (λ x. views.StandsWhole x.standing) hs → views.StandsWhole h.standing → AllByRecursion (λ x. views.StandsWhole x.standing) (hs ++ h ∷ [])
 whole_more [] h a w = (w, tt)
 whole_more (x ∷ hs) h a w = (a.0, whole_more hs h a.1 w)
 
-numbered_more : (n k j : ℕ) (hs : List Host) (h : Host) → j ≡ k + length hs → views.AreNumbered n k hs → views.HasNumber n j h.standing → views.AreNumbered n k (hs ++ h ∷ [])
-numbered_more n k j [] h e a w = (subst (λ m. views.HasNumber n m h.standing) (omega (arith, e)) w, tt)
+numbered_more : (n k j : ℕ) (hs : List Host) (h : Host) → j ≡ k + length hs → views.HostsAreNumbered n k hs → views.KnowsNumber n j h.standing → views.HostsAreNumbered n k (hs ++ h ∷ [])
+numbered_more n k j [] h e a w = (subst (λ m. views.KnowsNumber n m h.standing) (omega (arith, e)) w, tt)
 numbered_more n k j (x ∷ hs) h e a w = (a.0, numbered_more n (suc k) j hs h (omega (arith, e)) a.1 w)
 
-number_of_new : (n t k c : ℕ) (st : Standing) → views.host_of n t k (record { clock = c; standing = st }) ≡ worlds.new_host n t k → views.HasNumber n k st
+number_of_new : (n t k c : ℕ) (st : Standing) → views.host_of n t k (record { clock = c; standing = st }) ≡ worlds.new_host n t k → views.KnowsNumber n k st
 number_of_new n t k c (standing.Up s) e = (ap (λ (h : worlds.Host). h.server.raft.ballot.me) e, ap (λ (h : worlds.Host). h.server.raft.ballot.nodes) e)
 number_of_new n t k c (standing.Down kept es) e = tt
 
@@ -107,7 +107,7 @@ number_is : (number : ℕ) (hs : List Host) → suc (length hs) ≡ number → n
 number_is number hs e = omega (arith, e)
 
 pub one_opened : (n t number next : ℕ) (hs : List Host) (up : List Bool) (h : Host) → AreOpened n t number hs up → next ≡ number + 1
-    → views.host_of n t number h ≡ worlds.new_host n t number → views.stands_up h.standing ≡ true → views.IsWhole h.standing → AreOpened n t next (hs ++ h ∷ []) (up ++ true ∷ [])
+    → views.host_of n t number h ≡ worlds.new_host n t number → views.stands_up h.standing ≡ true → views.StandsWhole h.standing → AreOpened n t next (hs ++ h ∷ []) (up ++ true ∷ [])
 one_opened n t number next hs up h a e f u w = record {
   count = omega (arith, e, a.count, length-append hs (h ∷ []));
   hosts = hosts_more n t 1 number hs h (number_is number hs a.count) ∙ ap (λ (xs : List worlds.Host). xs ++ views.host_of n t number h ∷ []) a.hosts ∙ ap (λ (x : worlds.Host). map (worlds.new_host n t) (lists.numbers_from 1 (length hs)) ++ x ∷ []) f
@@ -127,4 +127,4 @@ all_opened n t number hs up a e =
     (ap (λ m. views.hosts_from m t 1 hs) size ∙ a.hosts ∙ ap (λ m. map (worlds.new_host n t) (lists.numbers_from 1 m)) size)
 
 pub opened_ready : (n t number : ℕ) (hs : List Host) (up : List Bool) → AreOpened n t number hs up → number ≡ n + 1 → views.IsReady hs up
-opened_ready n t number hs up a e = record { flags = a.flags; whole = a.whole; numbers = subst (λ m. views.AreNumbered m 1 hs) (omega (arith, e, a.count)) a.numbers }
+opened_ready n t number hs up a e = record { flags = a.flags; whole = a.whole; numbers = subst (λ m. views.HostsAreNumbered m 1 hs) (omega (arith, e, a.count)) a.numbers }

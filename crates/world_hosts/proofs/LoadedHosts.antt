@@ -67,21 +67,21 @@ loads n t k hosts old new o told e d at tells h =
     subst (λ m. lists.at_place hosts k ≡ Some (views.host_of m t k old) → host_steps.LoadsAs m t k told old new o → plans.Loads (opened t hosts) k (views.host_of m t k old) (opened t (positions.change_place (λ x. views.host_of m t k new) hosts k)) o) e
     (λ a l. loads_of t k old.clock hosts old.standing new o told d a tells l) at h
 
-whole_down : (st : Standing) → views.stands_up st ≡ false → views.IsWhole st
+whole_down : (st : Standing) → views.stands_up st ≡ false → views.StandsWhole st
 whole_down (standing.Up s) e = cc
 whole_down (standing.Down kept es) e = tt
 
-number_down : (n k : ℕ) (st : Standing) → views.stands_up st ≡ false → views.HasNumber n k st
+number_down : (n k : ℕ) (st : Standing) → views.stands_up st ≡ false → views.KnowsNumber n k st
 number_down n k (standing.Up s) e = cc
 number_down n k (standing.Down kept es) e = tt
 
 -- after a load the server is whole, and knows its numbers
-pub whole_loaded : (n t k : ℕ) (told : stores.Told) (old new : Host) (o : StepOutcome) → views.stands_up old.standing ≡ false → host_steps.LoadsAs n t k told old new o → views.IsWhole new.standing
+pub whole_loaded : (n t k : ℕ) (told : stores.Told) (old new : Host) (o : StepOutcome) → views.stands_up old.standing ≡ false → host_steps.LoadsAs n t k told old new o → views.StandsWhole new.standing
 whole_loaded n t k told old new outcome.Fine d h = absurd h
-whole_loaded n t k told old new (outcome.Failed saved) d h = subst (λ (x : Host). views.IsWhole x.standing) (sym h.1) (whole_down old.standing d)
-whole_loaded n t k told old new (outcome.Loaded added) d h = subst (λ (x : Host). views.IsWhole x.standing) (sym h.host) refl
+whole_loaded n t k told old new (outcome.Failed saved) d h = subst (λ (x : Host). views.StandsWhole x.standing) (sym h.1) (whole_down old.standing d)
+whole_loaded n t k told old new (outcome.Loaded added) d h = subst (λ (x : Host). views.StandsWhole x.standing) (sym h.host) refl
 
-pub number_loaded : (n t k : ℕ) (told : stores.Told) (old new : Host) (o : StepOutcome) → views.stands_up old.standing ≡ false → host_steps.LoadsAs n t k told old new o → views.HasNumber n k new.standing
+pub number_loaded : (n t k : ℕ) (told : stores.Told) (old new : Host) (o : StepOutcome) → views.stands_up old.standing ≡ false → host_steps.LoadsAs n t k told old new o → views.KnowsNumber n k new.standing
 number_loaded n t k told old new outcome.Fine d h = absurd h
-number_loaded n t k told old new (outcome.Failed saved) d h = subst (λ (x : Host). views.HasNumber n k x.standing) (sym h.1) (number_down n k old.standing d)
-number_loaded n t k told old new (outcome.Loaded added) d h = subst (λ (x : Host). views.HasNumber n k x.standing) (sym h.host) (refl, refl)
+number_loaded n t k told old new (outcome.Failed saved) d h = subst (λ (x : Host). views.KnowsNumber n k x.standing) (sym h.1) (number_down n k old.standing d)
+number_loaded n t k told old new (outcome.Loaded added) d h = subst (λ (x : Host). views.KnowsNumber n k x.standing) (sym h.host) (refl, refl)

@@ -46,26 +46,26 @@ match_changed (x ∷ hosts) (y ∷ ss) zero h new e f m = (f y (subst (λ a. mat
 match_changed (x ∷ hosts) (y ∷ ss) (suc i) h new e f m = (m.0, match_changed hosts ss i h new e f m.1)
 
 -- there is a store for each node
-pub store_within : {S : Type 0} (told : S → stores.Told) (needs : S → Bool) (n t : ℕ) (hs : List Host) (xs : List S) → matching.StoresMatch (views.hosts_from n t 1 hs) (matching.states_of told needs xs) → length hs ≤ length xs
-store_within told needs n t hs xs m = omega (arith, match_within (views.hosts_from n t 1 hs) (matching.states_of told needs xs) m, length_hosts n t 1 hs, length-map xs (matching.state_of told needs))
+pub store_within : {S : Type 0} (told : S → stores.Told) (needs : S → Bool) (n t : ℕ) (hs : List Host) (xs : List S) → matching.StoresMatch (views.hosts_from n t 1 hs) (matching.store_states_of told needs xs) → length hs ≤ length xs
+store_within told needs n t hs xs m = omega (arith, match_within (views.hosts_from n t 1 hs) (matching.store_states_of told needs xs) m, length_hosts n t 1 hs, length-map xs (matching.store_state_of told needs))
 
-state_at : {S : Type 0} (told : S → stores.Told) (needs : S → Bool) (xs : List S) (i : ℕ) (x : S) → slice_get xs i ≡ Some x → slice_get (matching.states_of told needs xs) i ≡ Some (matching.state_of told needs x)
-state_at told needs xs i x e = slice_get-map (matching.state_of told needs) xs i ∙ ap (λ o. option_map (matching.state_of told needs) o) e
+state_at : {S : Type 0} (told : S → stores.Told) (needs : S → Bool) (xs : List S) (i : ℕ) (x : S) → slice_get xs i ≡ Some x → slice_get (matching.store_states_of told needs xs) i ≡ Some (matching.store_state_of told needs x)
+state_at told needs xs i x e = slice_get-map (matching.store_state_of told needs) xs i ∙ ap (λ o. option_map (matching.store_state_of told needs) o) e
 
 host_get : (n t k i : ℕ) (hs : List Host) (h : Host) → suc i ≡ k → slice_get hs i ≡ Some h → slice_get (views.hosts_from n t 1 hs) i ≡ Some (views.host_of n t k h)
 host_get n t k i hs h e g = subst (λ p. lists.at_place (views.hosts_from n t 1 hs) p ≡ Some (views.host_of n t k h)) (sym e) (host_at n t k i hs h e g)
 
-pub store_at : {S : Type 0} (told : S → stores.Told) (needs : S → Bool) (n t k i : ℕ) (hs : List Host) (xs : List S) (h : Host) (x : S) → suc i ≡ k → matching.StoresMatch (views.hosts_from n t 1 hs) (matching.states_of told needs xs)
-    → slice_get hs i ≡ Some h → slice_get xs i ≡ Some x → host_steps.Matches h.standing (told x) (needs x)
+pub store_at : {S : Type 0} (told : S → stores.Told) (needs : S → Bool) (n t k i : ℕ) (hs : List Host) (xs : List S) (h : Host) (x : S) → suc i ≡ k → matching.StoresMatch (views.hosts_from n t 1 hs) (matching.store_states_of told needs xs)
+    → slice_get hs i ≡ Some h → slice_get xs i ≡ Some x → host_steps.MatchesStore h.standing (told x) (needs x)
 store_at told needs n t k i hs xs h x e m f g =
-    matches_host n t k h (told x) (needs x) (match_at (views.hosts_from n t 1 hs) (matching.states_of told needs xs) i (views.host_of n t k h) (matching.state_of told needs x) m (host_get n t k i hs h e f) (state_at told needs xs i x g))
+    matches_host n t k h (told x) (needs x) (match_at (views.hosts_from n t 1 hs) (matching.store_states_of told needs xs) i (views.host_of n t k h) (matching.store_state_of told needs x) m (host_get n t k i hs h e f) (state_at told needs xs i x g))
 
-pub stores_set : {S : Type 0} (told : S → stores.Told) (needs : S → Bool) (n t k i : ℕ) (hs : List Host) (xs : List S) (h : Host) (x : S) → suc i ≡ k → matching.StoresMatch (views.hosts_from n t 1 hs) (matching.states_of told needs xs)
-    → host_steps.Matches h.standing (told x) (needs x) → matching.StoresMatch (views.hosts_from n t 1 (set hs i h)) (matching.states_of told needs (set xs i x))
+pub stores_set : {S : Type 0} (told : S → stores.Told) (needs : S → Bool) (n t k i : ℕ) (hs : List Host) (xs : List S) (h : Host) (x : S) → suc i ≡ k → matching.StoresMatch (views.hosts_from n t 1 hs) (matching.store_states_of told needs xs)
+    → host_steps.MatchesStore h.standing (told x) (needs x) → matching.StoresMatch (views.hosts_from n t 1 (set hs i h)) (matching.store_states_of told needs (set xs i x))
 stores_set told needs n t k i hs xs h x e m a =
-    subst (λ hosts. matching.StoresMatch hosts (matching.states_of told needs (set xs i x))) (sym (host_set n t (suc i) i hs h refl))
-    (subst (λ ss. matching.StoresMatch (positions.change_place (λ old. views.host_of n t (suc i) h) (views.hosts_from n t 1 hs) (suc i)) ss) (sym (map-set (matching.state_of told needs) xs i x))
-    (match_set (views.hosts_from n t 1 hs) (matching.states_of told needs xs) i (views.host_of n t (suc i) h) (matching.state_of told needs x) m (host_matches n t (suc i) h (told x) (needs x) a)))
+    subst (λ hosts. matching.StoresMatch hosts (matching.store_states_of told needs (set xs i x))) (sym (host_set n t (suc i) i hs h refl))
+    (subst (λ ss. matching.StoresMatch (positions.change_place (λ old. views.host_of n t (suc i) h) (views.hosts_from n t 1 hs) (suc i)) ss) (sym (map-set (matching.store_state_of told needs) xs i x))
+    (match_set (views.hosts_from n t 1 hs) (matching.store_states_of told needs xs) i (views.host_of n t (suc i) h) (matching.store_state_of told needs x) m (host_matches n t (suc i) h (told x) (needs x) a)))
 
 telling_states : (ss : List matching.StoreState) (i : ℕ) (s new : matching.StoreState) → slice_get ss i ≡ Some s → (matching.Tells s.told → matching.Tells new.told) → matching.AreTelling ss → matching.AreTelling (set ss i new)
 telling_states [] i s new e f a = cc
@@ -73,9 +73,9 @@ telling_states (x ∷ ss) zero s new e f a = (f (subst (λ (y : matching.StoreSt
 telling_states (x ∷ ss) (suc i) s new e f a = (a.0, telling_states ss i s new e f a.1)
 
 pub telling_set : {S : Type 0} (told : S → stores.Told) (needs : S → Bool) (i : ℕ) (xs : List S) (x new : S) → slice_get xs i ≡ Some x → (matching.Tells (told x) → matching.Tells (told new))
-    → matching.AreTelling (matching.states_of told needs xs) → matching.AreTelling (matching.states_of told needs (set xs i new))
+    → matching.AreTelling (matching.store_states_of told needs xs) → matching.AreTelling (matching.store_states_of told needs (set xs i new))
 telling_set told needs i xs x new e f a =
-    subst matching.AreTelling (sym (map-set (matching.state_of told needs) xs i new)) (telling_states (matching.states_of told needs xs) i (matching.state_of told needs x) (matching.state_of told needs new) (state_at told needs xs i x e) f a)
+    subst matching.AreTelling (sym (map-set (matching.store_state_of told needs) xs i new)) (telling_states (matching.store_states_of told needs xs) i (matching.store_state_of told needs x) (matching.store_state_of told needs new) (state_at told needs xs i x e) f a)
 
 -- the other stores
 pub others_stay : {S : Type 0} (k i : ℕ) (xs : List S) (x : S) → suc i ≡ k → matching.OthersStay k xs (set xs i x)
@@ -86,46 +86,46 @@ others_stay {S} k i xs x e = record { size = length-set xs i x; each = other }
     other (suc j) ne = get-set_other xs i j x (λ f. ne (ap suc f ∙ e))
 
 -- the store of node k before and after
-at_state : {S : Type 0} (told : S → stores.Told) (needs : S → Bool) (k i : ℕ) (xs : List S) (x : S) → suc i ≡ k → slice_get xs i ≡ Some x → lists.at_place (matching.states_of told needs xs) k ≡ Some (matching.state_of told needs x)
-at_state told needs k i xs x e g = subst (λ p. lists.at_place (matching.states_of told needs xs) p ≡ Some (matching.state_of told needs x)) e (state_at told needs xs i x g)
+at_state : {S : Type 0} (told : S → stores.Told) (needs : S → Bool) (k i : ℕ) (xs : List S) (x : S) → suc i ≡ k → slice_get xs i ≡ Some x → lists.at_place (matching.store_states_of told needs xs) k ≡ Some (matching.store_state_of told needs x)
+at_state told needs k i xs x e g = subst (λ p. lists.at_place (matching.store_states_of told needs xs) p ≡ Some (matching.store_state_of told needs x)) e (state_at told needs xs i x g)
 
-at_set : {S : Type 0} (told : S → stores.Told) (needs : S → Bool) (k i : ℕ) (xs : List S) (x new : S) → suc i ≡ k → slice_get xs i ≡ Some x → lists.at_place (matching.states_of told needs (set xs i new)) k ≡ Some (matching.state_of told needs new)
+at_set : {S : Type 0} (told : S → stores.Told) (needs : S → Bool) (k i : ℕ) (xs : List S) (x new : S) → suc i ≡ k → slice_get xs i ≡ Some x → lists.at_place (matching.store_states_of told needs (set xs i new)) k ≡ Some (matching.store_state_of told needs new)
 at_set told needs k i xs x new e g = at_state told needs k i (set xs i new) new e (get-set_same xs i new (slice_get_within xs i x g))
 
 part_up : (n t k c : ℕ) (st : Standing) (i : ServerInput) (a b : matching.StoreState) → views.stands_up st ≡ true
-    → chains.IsPart (saving.calls_of (server_steps.server_out (host_steps.server_in st) i).saves) a.told b.told → matching.KeepsPart (Some (views.host_of n t k (record { clock = c; standing = st }))) i (Some a) (Some b)
+    → chains.IsSomeOf (saving.calls_of (server_steps.server_out (host_steps.server_in st) i).saves) a.told b.told → matching.KeepsPart (Some (views.host_of n t k (record { clock = c; standing = st }))) i (Some a) (Some b)
 part_up n t k c (standing.Up s) i a b u p = p
 part_up n t k c (standing.Down kept es) i a b u p = cc
 
 pub keeps_part : {S : Type 0} (told : S → stores.Told) (needs : S → Bool) (n t k i : ℕ) (hs : List Host) (xs : List S) (h : Host) (x new : S) (input : ServerInput) → suc i ≡ k → slice_get hs i ≡ Some h → slice_get xs i ≡ Some x → views.stands_up h.standing ≡ true
-    → chains.IsPart (saving.calls_of (server_steps.server_out (host_steps.server_in h.standing) input).saves) (told x) (told new)
-    → matching.KeepsPart (lists.at_place (views.hosts_from n t 1 hs) k) input (lists.at_place (matching.states_of told needs xs) k) (lists.at_place (matching.states_of told needs (set xs i new)) k)
+    → chains.IsSomeOf (saving.calls_of (server_steps.server_out (host_steps.server_in h.standing) input).saves) (told x) (told new)
+    → matching.KeepsPart (lists.at_place (views.hosts_from n t 1 hs) k) input (lists.at_place (matching.store_states_of told needs xs) k) (lists.at_place (matching.store_states_of told needs (set xs i new)) k)
 keeps_part told needs n t k i hs xs h x new input e f g u p =
-    subst (λ o. matching.KeepsPart o input (lists.at_place (matching.states_of told needs xs) k) (lists.at_place (matching.states_of told needs (set xs i new)) k)) (sym (host_at n t k i hs h e f))
-    (subst (λ o. matching.KeepsPart (Some (views.host_of n t k h)) input o (lists.at_place (matching.states_of told needs (set xs i new)) k)) (sym (at_state told needs k i xs x e g))
-    (subst (λ o. matching.KeepsPart (Some (views.host_of n t k h)) input (Some (matching.state_of told needs x)) o) (sym (at_set told needs k i xs x new e g))
-    (part_up n t k h.clock h.standing input (matching.state_of told needs x) (matching.state_of told needs new) u p)))
+    subst (λ o. matching.KeepsPart o input (lists.at_place (matching.store_states_of told needs xs) k) (lists.at_place (matching.store_states_of told needs (set xs i new)) k)) (sym (host_at n t k i hs h e f))
+    (subst (λ o. matching.KeepsPart (Some (views.host_of n t k h)) input o (lists.at_place (matching.store_states_of told needs (set xs i new)) k)) (sym (at_state told needs k i xs x e g))
+    (subst (λ o. matching.KeepsPart (Some (views.host_of n t k h)) input (Some (matching.store_state_of told needs x)) o) (sym (at_set told needs k i xs x new e g))
+    (part_up n t k h.clock h.standing input (matching.store_state_of told needs x) (matching.store_state_of told needs new) u p)))
 
 pub told_stays : {S : Type 0} (told : S → stores.Told) (needs : S → Bool) (k i : ℕ) (xs : List S) (x new : S) → suc i ≡ k → slice_get xs i ≡ Some x → told new ≡ told x
-    → matching.ToldStays (lists.at_place (matching.states_of told needs xs) k) (lists.at_place (matching.states_of told needs (set xs i new)) k)
+    → matching.ToldStays (lists.at_place (matching.store_states_of told needs xs) k) (lists.at_place (matching.store_states_of told needs (set xs i new)) k)
 told_stays told needs k i xs x new e g same =
-    subst (λ o. matching.ToldStays o (lists.at_place (matching.states_of told needs (set xs i new)) k)) (sym (at_state told needs k i xs x e g))
-    (subst (λ o. matching.ToldStays (Some (matching.state_of told needs x)) o) (sym (at_set told needs k i xs x new e g)) same)
+    subst (λ o. matching.ToldStays o (lists.at_place (matching.store_states_of told needs (set xs i new)) k)) (sym (at_state told needs k i xs x e g))
+    (subst (λ o. matching.ToldStays (Some (matching.store_state_of told needs x)) o) (sym (at_set told needs k i xs x new e g)) same)
 
-pub tells_at : {S : Type 0} (told : S → stores.Told) (needs : S → Bool) (k i : ℕ) (xs : List S) (x : S) → suc i ≡ k → slice_get xs i ≡ Some x → matching.IsTelling (lists.at_place (matching.states_of told needs xs) k) → matching.Tells (told x)
+pub tells_at : {S : Type 0} (told : S → stores.Told) (needs : S → Bool) (k i : ℕ) (xs : List S) (x : S) → suc i ≡ k → slice_get xs i ≡ Some x → matching.IsTelling (lists.at_place (matching.store_states_of told needs xs) k) → matching.Tells (told x)
 tells_at told needs k i xs x e g h = subst matching.IsTelling (at_state told needs k i xs x e g) h
 
 -- a node that keeps the same
-keeps_same : (n t k c d : ℕ) (st new : Standing) (s : matching.StoreState) → views.kept_of new ≡ views.kept_of st → views.stake_of new ≡ views.stake_of st → (views.stands_up new ≡ true → views.stands_up st ≡ true)
+keeps_same : (n t k c d : ℕ) (st new : Standing) (s : matching.StoreState) → views.kept_for_sure new ≡ views.kept_for_sure st → views.stake_of new ≡ views.stake_of st → (views.stands_up new ≡ true → views.stands_up st ≡ true)
     → matching.StoreMatches (views.host_of n t k (record { clock = c; standing = st })) s → matching.StoreMatches (views.host_of n t k (record { clock = d; standing = new })) s
 keeps_same n t k c d st new s e f u m =
     let a = matches_host n t k (record { clock = c; standing = st }) s.told s.needs_load m in
     host_matches n t k (record { clock = d; standing = new }) s.told s.needs_load (record {
-      content = subst (λ kept. host_steps.Holds kept (views.stake_of new) s.told) (sym e) (subst (λ es. host_steps.Holds (views.kept_of st) es s.told) (sym f) a.content);
+      content = subst (λ kept. host_steps.HoldsStake kept (views.stake_of new) s.told) (sym e) (subst (λ es. host_steps.HoldsStake (views.kept_for_sure st) es s.told) (sym f) a.content);
       loaded = λ up. a.loaded (u up);
     })
 
-pub same_kept : (n t k i : ℕ) (hs : List Host) (h new : Host) (ss : List matching.StoreState) → suc i ≡ k → slice_get hs i ≡ Some h → views.kept_of new.standing ≡ views.kept_of h.standing → views.stake_of new.standing ≡ views.stake_of h.standing
+pub same_kept : (n t k i : ℕ) (hs : List Host) (h new : Host) (ss : List matching.StoreState) → suc i ≡ k → slice_get hs i ≡ Some h → views.kept_for_sure new.standing ≡ views.kept_for_sure h.standing → views.stake_of new.standing ≡ views.stake_of h.standing
     → (views.stands_up new.standing ≡ true → views.stands_up h.standing ≡ true) → matching.StoresMatch (views.hosts_from n t 1 hs) ss → matching.StoresMatch (views.hosts_from n t 1 (set hs i new)) ss
 same_kept n t k i hs h new ss e g a b u m =
     subst (λ hosts. matching.StoresMatch hosts ss) (sym (host_set n t (suc i) i hs new refl))

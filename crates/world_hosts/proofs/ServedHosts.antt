@@ -34,10 +34,10 @@ use Rattle.world_hosts.specs.declared.served.Served.TheVariants as serving
 use Rattle.world_hosts.proofs.StepKeeps.{number_stays}
 
 -- a packet from another node or a client may be given to a server
-comes_from : (s : servers.Server) (k n : ℕ) (from : End) (p : Payload) → s.raft.ballot.me ≡ k → s.raft.ballot.nodes ≡ n → plans.IsOther k n from → conditions.ComesFrom s from p
+comes_from : (s : servers.Server) (k n : ℕ) (from : End) (p : Payload) → s.raft.ballot.me ≡ k → s.raft.ballot.nodes ≡ n → plans.IsFromOther k n from → conditions.ComesFrom s from p
 comes_from s k n from p e f o = by_payload p
   where
-    other : (from : End) → plans.IsOther k n from → conditions.IsOther s from
+    other : (from : End) → plans.IsFromOther k n from → conditions.IsOther s from
     other (end.Node j) o = (λ g. o.0 (g ∙ e), subst (λ m. j ≤ m) (sym f) o.1)
     other (end.Client c) o = tt
 
@@ -60,33 +60,33 @@ may_step s (asks.Beat clock) h b = h
 may_step s (asks.Check clock) h b = h
 may_step s (asks.Packet clock p) h b = h
 
-may_of : (n t k c : ℕ) (st : Standing) (i : ServerInput) → views.IsWhole st → views.HasNumber n k st → plans.MayServe k n (Some (views.host_of n t k (record { clock = c; standing = st }))) i → host_steps.MayServe st i
+may_of : (n t k c : ℕ) (st : Standing) (i : ServerInput) → views.StandsWhole st → views.KnowsNumber n k st → plans.MayServe k n (Some (views.host_of n t k (record { clock = c; standing = st }))) i → host_steps.MayBeServed st i
 may_of n t k c (standing.Up s) i w h m = (w, fits s.server k n i h.0 h.1 m.1)
 may_of n t k c (standing.Down kept es) i w h m = cc
 
-pub may_serve : (n t k : ℕ) (h : Host) (i : ServerInput) → views.IsWhole h.standing → views.HasNumber n k h.standing → plans.MayServe k n (Some (views.host_of n t k h)) i → host_steps.MayServe h.standing i
+pub may_serve : (n t k : ℕ) (h : Host) (i : ServerInput) → views.StandsWhole h.standing → views.KnowsNumber n k h.standing → plans.MayServe k n (Some (views.host_of n t k h)) i → host_steps.MayBeServed h.standing i
 may_serve n t k h i w e m = may_of n t k h.clock h.standing i w e m
 
 -- a store matches a node in code as it matches its host
-matches_of : (n t k c : ℕ) (st : Standing) (told : stores.Told) (needs : Bool) → matching.StoreMatches (views.host_of n t k (record { clock = c; standing = st })) (record { told = told; needs_load = needs }) → host_steps.Matches st told needs
+matches_of : (n t k c : ℕ) (st : Standing) (told : stores.Told) (needs : Bool) → matching.StoreMatches (views.host_of n t k (record { clock = c; standing = st })) (record { told = told; needs_load = needs }) → host_steps.MatchesStore st told needs
 matches_of n t k c (standing.Up s) (stores.Content content) needs m = record { content = record { added = m.content.added; within = m.content.within; same = m.content.same }; loaded = m.loaded }
 matches_of n t k c (standing.Down kept es) (stores.Content content) needs m = record { content = record { added = m.content.added; within = m.content.within; same = m.content.same }; loaded = m.loaded }
 matches_of n t k c st (stores.Bad at) needs m = record { content = tt; loaded = m.loaded }
 matches_of n t k c st stores.Untold needs m = record { content = tt; loaded = m.loaded }
 
-pub matches_host : (n t k : ℕ) (h : Host) (told : stores.Told) (needs : Bool) → matching.StoreMatches (views.host_of n t k h) (record { told = told; needs_load = needs }) → host_steps.Matches h.standing told needs
+pub matches_host : (n t k : ℕ) (h : Host) (told : stores.Told) (needs : Bool) → matching.StoreMatches (views.host_of n t k h) (record { told = told; needs_load = needs }) → host_steps.MatchesStore h.standing told needs
 matches_host n t k h told needs m = matches_of n t k h.clock h.standing told needs m
 
-host_matches_of : (n t k c : ℕ) (st : Standing) (told : stores.Told) (needs : Bool) → host_steps.Matches st told needs → matching.StoreMatches (views.host_of n t k (record { clock = c; standing = st })) (record { told = told; needs_load = needs })
+host_matches_of : (n t k c : ℕ) (st : Standing) (told : stores.Told) (needs : Bool) → host_steps.MatchesStore st told needs → matching.StoreMatches (views.host_of n t k (record { clock = c; standing = st })) (record { told = told; needs_load = needs })
 host_matches_of n t k c (standing.Up s) (stores.Content content) needs m = record { content = record { added = m.content.added; within = m.content.within; same = m.content.same }; loaded = m.loaded }
 host_matches_of n t k c (standing.Down kept es) (stores.Content content) needs m = record { content = record { added = m.content.added; within = m.content.within; same = m.content.same }; loaded = m.loaded }
 host_matches_of n t k c st (stores.Bad at) needs m = record { content = tt; loaded = m.loaded }
 host_matches_of n t k c st stores.Untold needs m = record { content = tt; loaded = m.loaded }
 
-pub host_matches : (n t k : ℕ) (h : Host) (told : stores.Told) (needs : Bool) → host_steps.Matches h.standing told needs → matching.StoreMatches (views.host_of n t k h) (record { told = told; needs_load = needs })
+pub host_matches : (n t k : ℕ) (h : Host) (told : stores.Told) (needs : Bool) → host_steps.MatchesStore h.standing told needs → matching.StoreMatches (views.host_of n t k h) (record { told = told; needs_load = needs })
 host_matches n t k h told needs m = host_matches_of n t k h.clock h.standing told needs m
 
-raft_kept : (st : Standing) → raft_nodes.kept_of (host_steps.server_in st).raft ≡ views.kept_of st
+raft_kept : (st : Standing) → raft_nodes.kept_of (host_steps.server_in st).raft ≡ views.kept_for_sure st
 raft_kept (standing.Up s) = refl
 raft_kept (standing.Down kept es) = refl
 
@@ -94,14 +94,14 @@ no_stake : (st : Standing) → views.stands_up st ≡ true → views.stake_of st
 no_stake (standing.Up s) u = refl
 no_stake (standing.Down kept es) u = cc
 
-may_up : (st : Standing) (i : ServerInput) → host_steps.MayServe st i → views.stands_up st ≡ true
+may_up : (st : Standing) (i : ServerInput) → host_steps.MayBeServed st i → views.stands_up st ≡ true
 may_up (standing.Up s) i m = refl
 may_up (standing.Down kept es) i m = absurd m
 
 -- the saves of a step were kept or not, behind its server
 pub served_so : (old mid new : Host) (i : ServerInput) (out : ServerOut) (r : Replaced) (before now : stores.Told) (needs : Bool) (served : Served)
     → mid ≡ host_steps.served_host old i → out ≡ server_steps.server_out (host_steps.server_in old.standing) i → host_steps.IsReplacedBy (host_steps.server_in old.standing) i r
-    → host_steps.Keeps mid out r new before now needs served → host_steps.ServesAs old i new served
+    → host_steps.KeepsOrFalls mid out r new before now needs served → host_steps.ServesAs old i new served
 served_so old mid new i out r before now needs (serving.Fine answer) e f l k = (k.given ∙ f, k.host ∙ e)
 served_so old mid new i out r before now needs (serving.Failed saved) e f l k =
     let server = host_steps.server_in old.standing in
@@ -119,12 +119,12 @@ served_so old mid new i out r before now needs (serving.Failed saved) e f l k =
 content_is : (kept content : Loaded) → host_steps.HoldsWith kept [] content → content ≡ kept
 content_is kept content h = h.same ∙ with_nothing kept h.added
 
-holds_none : (st : Standing) (told : stores.Told) → views.stands_up st ≡ true → host_steps.Holds (views.kept_of st) (views.stake_of st) told → host_steps.Holds (raft_nodes.kept_of (host_steps.server_in st).raft) [] told
+holds_none : (st : Standing) (told : stores.Told) → views.stands_up st ≡ true → host_steps.HoldsStake (views.kept_for_sure st) (views.stake_of st) told → host_steps.HoldsStake (raft_nodes.kept_of (host_steps.server_in st).raft) [] told
 holds_none (standing.Up s) told u h = h
 holds_none (standing.Down kept es) told u h = cc
 
-fine_told : (s : servers.Server) (i : ServerInput) (out : ServerOut) (r : Replaced) (t : stores.Told) → out ≡ server_steps.server_out s i → host_steps.IsReplacedBy s i r → host_steps.Holds (raft_nodes.kept_of s.raft) [] t
-    → host_steps.Holds (raft_nodes.kept_of (server_steps.server_after s i).raft) [] (chains.told_after t (saving.calls_of out.saves))
+fine_told : (s : servers.Server) (i : ServerInput) (out : ServerOut) (r : Replaced) (t : stores.Told) → out ≡ server_steps.server_out s i → host_steps.IsReplacedBy s i r → host_steps.HoldsStake (raft_nodes.kept_of s.raft) [] t
+    → host_steps.HoldsStake (raft_nodes.kept_of (server_steps.server_after s i).raft) [] (chains.told_after t (saving.calls_of out.saves))
 fine_told s i out r (stores.Content content) f l h = record {
   added = 0;
   within = omega arith;
@@ -136,8 +136,8 @@ fine_told s i out r (stores.Content content) f l h = record {
 fine_told s i out r (stores.Bad at) f l h = tt
 fine_told s i out r stores.Untold f l h = tt
 
-failed_told : (kept : Loaded) (calls : List saving.Save) (n added : ℕ) (t : stores.Told) → host_steps.Holds kept [] t → added ≤ length (saving.at_stake (slice_get calls n))
-    → host_steps.Holds (saving.kept_at_failure kept calls n) (saving.at_stake (slice_get calls n)) (chains.told_with (chains.told_after t (take n calls)) (saving.at_stake (slice_get calls n)) added)
+failed_told : (kept : Loaded) (calls : List saving.Save) (n added : ℕ) (t : stores.Told) → host_steps.HoldsStake kept [] t → added ≤ length (saving.at_stake (slice_get calls n))
+    → host_steps.HoldsStake (saving.kept_at_failure kept calls n) (saving.at_stake (slice_get calls n)) (chains.told_with (chains.told_after t (take n calls)) (saving.at_stake (slice_get calls n)) added)
 failed_told kept calls n added (stores.Content content) h w = record {
   added = added;
   within = w;
@@ -147,15 +147,15 @@ failed_told kept calls n added (stores.Bad at) h w = tt
 failed_told kept calls n added stores.Untold h w = tt
 
 pub matches_so : (old mid new : Host) (i : ServerInput) (out : ServerOut) (r : Replaced) (before now : stores.Told) (needs was : Bool) (served : Served)
-    → host_steps.MayServe old.standing i → host_steps.Matches old.standing before was
+    → host_steps.MayBeServed old.standing i → host_steps.MatchesStore old.standing before was
     → mid ≡ host_steps.served_host old i → out ≡ server_steps.server_out (host_steps.server_in old.standing) i → host_steps.IsReplacedBy (host_steps.server_in old.standing) i r
-    → host_steps.Keeps mid out r new before now needs served → host_steps.Matches new.standing now needs
+    → host_steps.KeepsOrFalls mid out r new before now needs served → host_steps.MatchesStore new.standing now needs
 matches_so old mid new i out r before now needs was (serving.Fine answer) may m e f l k =
     let server = host_steps.server_in old.standing in
     let after = server_steps.server_after server i in
-    subst (λ (h : Host). host_steps.Matches h.standing now needs) (sym (k.host ∙ e))
+    subst (λ (h : Host). host_steps.MatchesStore h.standing now needs) (sym (k.host ∙ e))
     (record {
-      content = subst (λ t. host_steps.Holds (raft_nodes.kept_of after.raft) [] t) (sym k.told) (fine_told server i out r before f l (holds_none old.standing before (may_up old.standing i may) m.content));
+      content = subst (λ t. host_steps.HoldsStake (raft_nodes.kept_of after.raft) [] t) (sym k.told) (fine_told server i out r before f l (holds_none old.standing before (may_up old.standing i may) m.content));
       loaded = λ u. k.loaded;
     })
 matches_so old mid new i out r before now needs was (serving.Failed saved) may m e f l k =
@@ -164,22 +164,22 @@ matches_so old mid new i out r before now needs was (serving.Failed saved) may m
     let p : host_steps.Falls (host_steps.served_host old i) out.saves r new before now (serving.Failed saved) = subst (λ (h : Host). host_steps.Falls h out.saves r new before now (serving.Failed saved)) e k in
     let o : host_steps.Falls (host_steps.served_host old i) (server_steps.server_out server i).saves r new before now (serving.Failed saved) =
     subst (λ (o : ServerOut). host_steps.Falls (host_steps.served_host old i) o.saves r new before now (serving.Failed saved)) f p in
-    let n = chains.calls_before o.call (server_steps.server_out server i).saves in
-    subst (λ (h : Host). host_steps.Matches h.standing now needs) (sym (o.falls.1 (raft_nodes.kept_of server.raft) l.leads))
+    let n = chains.saves_before o.call (server_steps.server_out server i).saves in
+    subst (λ (h : Host). host_steps.MatchesStore h.standing now needs) (sym (o.falls.1 (raft_nodes.kept_of server.raft) l.leads))
     (record {
-      content = subst (λ t. host_steps.Holds (saving.kept_at_failure (raft_nodes.kept_of server.raft) calls n) (saving.at_stake (slice_get calls n)) t) (sym o.fails.left.same)
+      content = subst (λ t. host_steps.HoldsStake (saving.kept_at_failure (raft_nodes.kept_of server.raft) calls n) (saving.at_stake (slice_get calls n)) t) (sym o.fails.left.same)
           (failed_told (raft_nodes.kept_of server.raft) calls n o.fails.left.added before (holds_none old.standing before (may_up old.standing i may) m.content) o.fails.left.within);
       loaded = λ u. cc;
     })
 
 -- a step cuts within what its store tells
-pub cuts_told : (old : Host) (i : ServerInput) (r : Replaced) (out : ServerOut) (told : stores.Told) (was : Bool) → host_steps.MayServe old.standing i → host_steps.Matches old.standing told was
-    → out ≡ server_steps.server_out (host_steps.server_in old.standing) i → host_steps.IsReplacedBy (host_steps.server_in old.standing) i r → chains.CutsWithin out.saves.cut told
+pub cuts_told : (old : Host) (i : ServerInput) (r : Replaced) (out : ServerOut) (told : stores.Told) (was : Bool) → host_steps.MayBeServed old.standing i → host_steps.MatchesStore old.standing told was
+    → out ≡ server_steps.server_out (host_steps.server_in old.standing) i → host_steps.IsReplacedBy (host_steps.server_in old.standing) i r → chains.CutsWithinTold out.saves.cut told
 cuts_told old i r out told was may m f l =
-    subst (λ (o : ServerOut). chains.CutsWithin o.saves.cut told) (sym f)
+    subst (λ (o : ServerOut). chains.CutsWithinTold o.saves.cut told) (sym f)
     (by_cut (server_steps.server_out (host_steps.server_in old.standing) i).saves.cut told l.within (holds_none old.standing told (may_up old.standing i may) m.content))
   where
-    by_cut : (cut : Option ℕ) (t : stores.Told) → host_steps.CutsLog cut (host_steps.server_in old.standing).raft.log → host_steps.Holds (raft_nodes.kept_of (host_steps.server_in old.standing).raft) [] t → chains.CutsWithin cut t
+    by_cut : (cut : Option ℕ) (t : stores.Told) → host_steps.CutsLog cut (host_steps.server_in old.standing).raft.log → host_steps.HoldsStake (raft_nodes.kept_of (host_steps.server_in old.standing).raft) [] t → chains.CutsWithinTold cut t
     by_cut None t w h = tt
     by_cut (Some last) (stores.Content content) w h =
         subst (λ (c : Loaded). last ≤ length c.log) (sym (content_is (raft_nodes.kept_of (host_steps.server_in old.standing).raft) content h)) w
@@ -197,14 +197,14 @@ tells_with (stores.Content c) es added h = tt
 tells_with (stores.Bad at) es added h = h
 tells_with stores.Untold es added h = h
 
-pub tells_kept : (old : Host) (out : ServerOut) (r : Replaced) (new : Host) (before now : stores.Told) (needs : Bool) (served : Served) → host_steps.Keeps old out r new before now needs served → matching.Tells before → matching.Tells now
+pub tells_kept : (old : Host) (out : ServerOut) (r : Replaced) (new : Host) (before now : stores.Told) (needs : Bool) (served : Served) → host_steps.KeepsOrFalls old out r new before now needs served → matching.Tells before → matching.Tells now
 tells_kept old out r new before now needs (serving.Fine answer) k h = subst matching.Tells (sym k.told) (tells_after before (saving.calls_of out.saves) h)
 tells_kept old out r new before now needs (serving.Failed saved) k h =
     subst matching.Tells (sym k.fails.left.same)
-    (tells_with (chains.told_after before (take (chains.calls_before k.call out.saves) (saving.calls_of out.saves))) (saving.at_stake (slice_get (saving.calls_of out.saves) (chains.calls_before k.call out.saves))) k.fails.left.added
-    (tells_after before (take (chains.calls_before k.call out.saves) (saving.calls_of out.saves)) h))
+    (tells_with (chains.told_after before (take (chains.saves_before k.call out.saves) (saving.calls_of out.saves))) (saving.at_stake (slice_get (saving.calls_of out.saves) (chains.saves_before k.call out.saves))) k.fails.left.added
+    (tells_after before (take (chains.saves_before k.call out.saves) (saving.calls_of out.saves)) h))
 
-pub tells_part : (calls : List saving.Save) (before now : stores.Told) → chains.IsPart calls before now → matching.Tells before → matching.Tells now
+pub tells_part : (calls : List saving.Save) (before now : stores.Told) → chains.IsSomeOf calls before now → matching.Tells before → matching.Tells now
 tells_part calls before now p h = subst matching.Tells (sym p.same) (tells_after before (take p.made calls) h)
 
 -- a step of node k among all
@@ -237,17 +237,17 @@ serves n t k hosts old new i r e u h =
     e (serves_of t k old.clock hosts old.standing new i r u h)
 
 -- after a step the server is whole, and knows its numbers
-pub whole_after : (old new : Host) (i : ServerInput) (r : Served) → host_steps.ServesAs old i new r → views.IsWhole new.standing
-whole_after old new i (serving.Fine out) h = subst (λ (x : Host). views.IsWhole x.standing) (sym h.1) refl
-whole_after old new i (serving.Failed saved) h = subst (λ (x : Host). views.IsWhole x.standing) (sym h.1) tt
+pub whole_after : (old new : Host) (i : ServerInput) (r : Served) → host_steps.ServesAs old i new r → views.StandsWhole new.standing
+whole_after old new i (serving.Fine out) h = subst (λ (x : Host). views.StandsWhole x.standing) (sym h.1) refl
+whole_after old new i (serving.Failed saved) h = subst (λ (x : Host). views.StandsWhole x.standing) (sym h.1) tt
 
-number_of : (n k c : ℕ) (st : Standing) (new : Host) (i : ServerInput) (r : Served) → views.stands_up st ≡ true → views.HasNumber n k st → host_steps.ServesAs (record { clock = c; standing = st }) i new r → views.HasNumber n k new.standing
+number_of : (n k c : ℕ) (st : Standing) (new : Host) (i : ServerInput) (r : Served) → views.stands_up st ≡ true → views.KnowsNumber n k st → host_steps.ServesAs (record { clock = c; standing = st }) i new r → views.KnowsNumber n k new.standing
 number_of n k c (standing.Up s) new i (serving.Fine out) u e h =
-    subst (λ (x : Host). views.HasNumber n k x.standing) (sym h.1) (let m = number_stays s.server i in (m.0 ∙ e.0, m.1 ∙ e.1))
-number_of n k c (standing.Up s) new i (serving.Failed saved) u e h = subst (λ (x : Host). views.HasNumber n k x.standing) (sym h.1) tt
+    subst (λ (x : Host). views.KnowsNumber n k x.standing) (sym h.1) (let m = number_stays s.server i in (m.0 ∙ e.0, m.1 ∙ e.1))
+number_of n k c (standing.Up s) new i (serving.Failed saved) u e h = subst (λ (x : Host). views.KnowsNumber n k x.standing) (sym h.1) tt
 number_of n k c (standing.Down kept es) new i r u e h = cc
 
-pub number_after : (n k : ℕ) (old new : Host) (i : ServerInput) (r : Served) → views.stands_up old.standing ≡ true → views.HasNumber n k old.standing → host_steps.ServesAs old i new r → views.HasNumber n k new.standing
+pub number_after : (n k : ℕ) (old new : Host) (i : ServerInput) (r : Served) → views.stands_up old.standing ≡ true → views.KnowsNumber n k old.standing → host_steps.ServesAs old i new r → views.KnowsNumber n k new.standing
 number_after n k old new i r u e h = number_of n k old.clock old.standing new i r u e h
 
 -- what holds at Ok, whatever the value

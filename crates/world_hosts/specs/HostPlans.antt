@@ -23,8 +23,8 @@ pub record OpenHosts : Type 0 where
   pub is_spent : Bool
 
 -- a world of these nodes, without packets and clients
-abbrev pub world_of : OpenHosts → worlds.World
-world_of s = record { timeout = s.timeout; hosts = s.hosts; seats = []; bag = bags.empty_bag; history = [] }
+abbrev pub world_of_hosts : OpenHosts → worlds.World
+world_of_hosts s = record { timeout = s.timeout; hosts = s.hosts; seats = []; bag = bags.empty_bag; history = [] }
 
 abbrev pub leads_in : Option worlds.Host → Bool
 leads_in None = false
@@ -36,15 +36,15 @@ clock_in (Some h) = h.clock
 
 -- a node that goes down with all that it keeps, and one with another clock
 abbrev pub fallen_in : OpenHosts → ℕ → worlds.Host → worlds.Host
-fallen_in s k h = worlds.fallen_host (world_of s) k h (worlds.kept_by h) []
+fallen_in s k h = worlds.fallen_host (world_of_hosts s) k h (worlds.kept_by h) []
 
 abbrev pub with_clock : ℕ → worlds.Host → worlds.Host
 with_clock time h = record h { clock = time }
 
 -- a packet to node k of so many comes from another node, or from a client
-abbrev pub IsOther : ℕ → ℕ → End → Type 0
-IsOther k nodes (end.Node j) = (j ≢ k) × (j ≤ nodes)
-IsOther k nodes (end.Client c) = Unit {0}
+abbrev pub IsFromOther : ℕ → ℕ → End → Type 0
+IsFromOther k nodes (end.Node j) = (j ≢ k) × (j ≤ nodes)
+IsFromOther k nodes (end.Client c) = Unit {0}
 
 -- when the server of node k of so many may be given an input, whatever its term: a leader stands for no election, and only a
 -- leader beats and checks
@@ -52,7 +52,7 @@ abbrev pub FitsServer : ℕ → ℕ → servers.Server → ServerInput → Type 
 FitsServer k nodes s (asks.Elect clock) = servers.leads s ≡ false
 FitsServer k nodes s (asks.Beat clock) = servers.leads s ≡ true
 FitsServer k nodes s (asks.Check clock) = servers.leads s ≡ true
-FitsServer k nodes s (asks.Packet clock p) = IsOther k nodes p.«from»
+FitsServer k nodes s (asks.Packet clock p) = IsFromOther k nodes p.«from»
 
 -- node k of so many is there and up, and may be given an input
 abbrev pub MayServe : ℕ → ℕ → Option worlds.Host → ServerInput → Type 0
@@ -60,19 +60,19 @@ MayServe k nodes None i = ⊥
 MayServe k nodes (Some h) i = (h.is_up ≡ true) × FitsServer k nodes h.server i
 
 -- how the stores fared in a step
-abbrev pub outcome_of : Served → StepOutcome
-outcome_of (serving.Fine out) = outcome.Fine
-outcome_of (serving.Failed saved) = outcome.Failed saved
+abbrev pub outcome_served : Served → StepOutcome
+outcome_served (serving.Fine out) = outcome.Fine
+outcome_served (serving.Failed saved) = outcome.Failed saved
 
-abbrev pub IsGiven : ServerOut → Served → Type 0
-IsGiven out (serving.Fine given) = given ≡ out
-IsGiven out (serving.Failed saved) = Unit {0}
+abbrev pub IsGivenBack : ServerOut → Served → Type 0
+IsGivenBack out (serving.Fine given) = given ≡ out
+IsGivenBack out (serving.Failed saved) = Unit {0}
 
 -- a step of node k, which is h, and what was answered
 pub record Serves (old : OpenHosts) (k : ℕ) (h : worlds.Host) (i : ServerInput) (new : OpenHosts) (s : Served) : Type 0 where
-  pub may : moves.may_serve (length (saving.calls_of (server_steps.server_out h.server i).saves)) (outcome_of s) ≡ true
-  pub given : IsGiven (server_steps.server_out h.server i) s
-  pub after : new ≡ record old { hosts = (moves.served (world_of old) k h i (outcome_of s)).world.hosts }
+  pub may : moves.may_serve (length (saving.calls_of (server_steps.server_out h.server i).saves)) (outcome_served s) ≡ true
+  pub given : IsGivenBack (server_steps.server_out h.server i) s
+  pub after : new ≡ record old { hosts = (moves.served (world_of_hosts old) k h i (outcome_served s)).world.hosts }
 
 abbrev pub ServesAt : OpenHosts → ℕ → Option worlds.Host → ServerInput → OpenHosts → Served → Type 0
 ServesAt old k None i new s = ⊥
@@ -81,7 +81,7 @@ ServesAt old k (Some h) i new s = Serves old k h i new s
 -- a load of node k, which is h
 pub record Loads (old : OpenHosts) (k : ℕ) (h : worlds.Host) (new : OpenHosts) (o : StepOutcome) : Type 0 where
   pub may : moves.may_load h o ≡ true
-  pub after : new ≡ record old { hosts = (moves.loaded (world_of old) k h o).world.hosts }
+  pub after : new ≡ record old { hosts = (moves.loaded (world_of_hosts old) k h o).world.hosts }
 
 abbrev pub LoadsAt : OpenHosts → ℕ → Option worlds.Host → OpenHosts → StepOutcome → Type 0
 LoadsAt old k None new o = ⊥

@@ -33,9 +33,9 @@ FitsStep s (asks.Beat clock) = servers.leads s ≡ true
 FitsStep s (asks.Check clock) = servers.leads s ≡ true
 FitsStep s (asks.Packet clock p) = conditions.ComesFrom s p.«from» p.payload
 
-abbrev pub MayServe : Standing → ServerInput → Type 0
-MayServe (standing.Up s) i = (s.is_spent ≡ false) × FitsStep s.server i
-MayServe (standing.Down kept es) i = ⊥
+abbrev pub MayBeServed : Standing → ServerInput → Type 0
+MayBeServed (standing.Up s) i = (s.is_spent ≡ false) × FitsStep s.server i
+MayBeServed (standing.Down kept es) i = ⊥
 
 -- what a store tells that is to hold these, and some first ones of these entries
 pub record HoldsWith (kept : Loaded) (es : List Entry) (content : Loaded) : Type 0 where
@@ -43,12 +43,12 @@ pub record HoldsWith (kept : Loaded) (es : List Entry) (content : Loaded) : Type
   pub within : added ≤ length es
   pub same : content ≡ saving.with_rest kept es added
 
-abbrev pub Holds : Loaded → List Entry → stores.Told → Type 0
-Holds kept es (stores.Content content) = HoldsWith kept es content
-Holds kept es _ = Unit {0}
+abbrev pub HoldsStake : Loaded → List Entry → stores.Told → Type 0
+HoldsStake kept es (stores.Content content) = HoldsWith kept es content
+HoldsStake kept es _ = Unit {0}
 
-pub record Matches (s : Standing) (told : stores.Told) (needs_load : Bool) : Type 0 where
-  pub content : Holds (views.kept_of s) (views.stake_of s) told
+pub record MatchesStore (s : Standing) (told : stores.Told) (needs_load : Bool) : Type 0 where
+  pub content : HoldsStake (views.kept_for_sure s) (views.stake_of s) told
   pub loaded : views.stands_up s ≡ true → needs_load ≡ false
 
 -- the server of a node that is up, and some server of one that is down
@@ -66,7 +66,7 @@ served_host h i = record { clock = h.clock; standing = standing.Up (record { ser
 abbrev pub ServesAs : Host → ServerInput → Host → Served → Type 0
 ServesAs old i new (serving.Fine out) = (out ≡ server_steps.server_out (server_in old.standing) i) × (new ≡ served_host old i)
 ServesAs old i new (serving.Failed saved) = let calls = saving.calls_of (server_steps.server_out (server_in old.standing) i).saves in
-    (nat_lt saved (length calls) ≡ true) × (new ≡ halted_host old (views.kept_of old.standing) calls saved)
+    (nat_lt saved (length calls) ≡ true) × (new ≡ halted_host old (views.kept_for_sure old.standing) calls saved)
 
 -- a cut lies within a log
 abbrev pub CutsLog : Option ℕ → List Entry → Type 0
@@ -76,8 +76,8 @@ CutsLog (Some last) log = last ≤ length log
 -- where a store call of a step failed its node falls
 abbrev pub FallsAt : Host → Saves → Replaced → Host → SaveCall → Served → Type 0
 FallsAt old saves r new call (serving.Fine out) = ⊥
-FallsAt old saves r new call (serving.Failed saved) = (saved ≡ chains.calls_before call saves)
-    × ((kept : Loaded) → replacing.LeadsTo kept saves r (views.kept_of old.standing) → new ≡ halted_host old kept (saving.calls_of saves) (chains.calls_before call saves))
+FallsAt old saves r new call (serving.Failed saved) = (saved ≡ chains.saves_before call saves)
+    × ((kept : Loaded) → replacing.LeadsTo kept saves r (views.kept_for_sure old.standing) → new ≡ halted_host old kept (saving.calls_of saves) (chains.saves_before call saves))
 
 pub record Falls (old : Host) (saves : Saves) (r : Replaced) (new : Host) (before now : stores.Told) (served : Served) : Type 0 where
   pub call : SaveCall
@@ -85,15 +85,15 @@ pub record Falls (old : Host) (saves : Saves) (r : Replaced) (new : Host) (befor
   pub falls : FallsAt old saves r new call served
 
 -- the saves of a step were kept, or one of its store calls failed
-pub record Stands (old : Host) (out : ServerOut) (new : Host) (before now : stores.Told) (needs_load : Bool) (answer : ServerOut) : Type 0 where
+pub record KeepsAll (old : Host) (out : ServerOut) (new : Host) (before now : stores.Told) (needs_load : Bool) (answer : ServerOut) : Type 0 where
   pub given : answer ≡ out
   pub host : new ≡ old
   pub told : now ≡ chains.told_after before (saving.calls_of out.saves)
   pub loaded : needs_load ≡ false
 
-abbrev pub Keeps : Host → ServerOut → Replaced → Host → stores.Told → stores.Told → Bool → Served → Type 0
-Keeps old out r new before now needs_load (serving.Fine answer) = Stands old out new before now needs_load answer
-Keeps old out r new before now needs_load (serving.Failed saved) = Falls old out.saves r new before now (serving.Failed saved)
+abbrev pub KeepsOrFalls : Host → ServerOut → Replaced → Host → stores.Told → stores.Told → Bool → Served → Type 0
+KeepsOrFalls old out r new before now needs_load (serving.Fine answer) = KeepsAll old out new before now needs_load answer
+KeepsOrFalls old out r new before now needs_load (serving.Failed saved) = Falls old out.saves r new before now (serving.Failed saved)
 
 -- what a step may replace is at hand, and it cuts within the log
 pub record IsReplacedBy (s : servers.Server) (i : ServerInput) (r : Replaced) : Type 0 where
@@ -128,7 +128,7 @@ abbrev pub loaded_host : ℕ → ℕ → ℕ → Host → Loaded → Host
 loaded_host nodes timeout k h content = record { clock = h.clock; standing = standing.Up (record { server = servers.server_from k nodes timeout content; is_spent = false }) }
 
 abbrev pub TellsContent : stores.Told → Standing → Loaded → ℕ → Type 0
-TellsContent (stores.Content c) s content added = (added ≤ length (views.stake_of s)) × ((content ≡ saving.with_rest (views.kept_of s) (views.stake_of s) added) × (worlds.is_loadable content ≡ true))
+TellsContent (stores.Content c) s content added = (added ≤ length (views.stake_of s)) × ((content ≡ saving.with_rest (views.kept_for_sure s) (views.stake_of s) added) × (worlds.is_loadable content ≡ true))
 TellsContent (stores.Bad at) s content added = ⊥
 TellsContent stores.Untold s content added = Unit {0}
 

@@ -24,9 +24,9 @@ stake_of (standing.Up s) = []
 stake_of (standing.Down kept es) = es
 
 -- what a node keeps for sure
-abbrev pub kept_of : Standing → Loaded
-kept_of (standing.Up s) = raft_nodes.kept_of s.server.raft
-kept_of (standing.Down kept es) = kept
+abbrev pub kept_for_sure : Standing → Loaded
+kept_for_sure (standing.Up s) = raft_nodes.kept_of s.server.raft
+kept_for_sure (standing.Down kept es) = kept
 
 abbrev pub host_of : ℕ → ℕ → ℕ → Host → worlds.Host
 host_of nodes timeout k h = record { is_up = stands_up h.standing; clock = h.clock; server = server_of nodes timeout k h.standing; at_stake = stake_of h.standing }
@@ -41,27 +41,27 @@ leading_term (standing.Up s) = if servers.leads s.server then s.server.raft.ball
 leading_term (standing.Down kept es) = 0
 
 -- no step of the server was left half done
-abbrev pub IsWhole : Standing → Type 0
-IsWhole (standing.Up s) = s.is_spent ≡ false
-IsWhole (standing.Down kept es) = Unit {0}
+abbrev pub StandsWhole : Standing → Type 0
+StandsWhole (standing.Up s) = s.is_spent ≡ false
+StandsWhole (standing.Down kept es) = Unit {0}
 
 -- the server of node k of so many knows both numbers
-abbrev pub HasNumber : ℕ → ℕ → Standing → Type 0
-HasNumber nodes k (standing.Up s) = (s.server.raft.ballot.me ≡ k) × (s.server.raft.ballot.nodes ≡ nodes)
-HasNumber nodes k (standing.Down kept es) = Unit {0}
+abbrev pub KnowsNumber : ℕ → ℕ → Standing → Type 0
+KnowsNumber nodes k (standing.Up s) = (s.server.raft.ballot.me ≡ k) × (s.server.raft.ballot.nodes ≡ nodes)
+KnowsNumber nodes k (standing.Down kept es) = Unit {0}
 
-abbrev pub AreNumbered : ℕ → ℕ → List Host → Type 0
-AreNumbered nodes k [] = Unit {0}
-AreNumbered nodes k (h ∷ hosts) = HasNumber nodes k h.standing × AreNumbered nodes (suc k) hosts
+abbrev pub HostsAreNumbered : ℕ → ℕ → List Host → Type 0
+HostsAreNumbered nodes k [] = Unit {0}
+HostsAreNumbered nodes k (h ∷ hosts) = KnowsNumber nodes k h.standing × HostsAreNumbered nodes (suc k) hosts
 
 -- the flags tell which nodes are up, and no step was left half done
 pub record IsReady (hosts : List Host) (up : List Bool) : Type 0 where
   pub flags : up ≡ map (λ h. stands_up h.standing) hosts
-  pub whole : AllByRecursion (λ h. IsWhole h.standing) hosts
-  pub numbers : AreNumbered (length hosts) 1 hosts
+  pub whole : AllByRecursion (λ h. StandsWhole h.standing) hosts
+  pub numbers : HostsAreNumbered (length hosts) 1 hosts
 
 -- a cluster within its limits
-pub record IsWithin (nodes timeout : ℕ) : Type 0 where
+pub record ClusterIsWithin (nodes timeout : ℕ) : Type 0 where
   pub nodes_most : nodes ≤ 9
   pub timeout_least : 1 ≤ timeout
   pub timeout_most : timeout ≤ 1000000000

@@ -14,11 +14,11 @@ pub record StoreState : Type 0 where
   pub told : stores.Told
   pub needs_load : Bool
 
-abbrev pub state_of : {S : Type 0} → (S → stores.Told) → (S → Bool) → S → StoreState
-state_of told needs_load s = record { told = told s; needs_load = needs_load s }
+abbrev pub store_state_of : {S : Type 0} → (S → stores.Told) → (S → Bool) → S → StoreState
+store_state_of told needs_load s = record { told = told s; needs_load = needs_load s }
 
-abbrev pub states_of : {S : Type 0} → (S → stores.Told) → (S → Bool) → List S → List StoreState
-states_of told needs_load xs = map (state_of told needs_load) xs
+abbrev pub store_states_of : {S : Type 0} → (S → stores.Told) → (S → Bool) → List S → List StoreState
+store_states_of told needs_load xs = map (store_state_of told needs_load) xs
 
 -- what a store tells is what its node keeps, where it tells its content
 abbrev pub HasContent : worlds.Host → stores.Told → Type 0
@@ -42,7 +42,7 @@ pub record OthersStay (k : ℕ) {S : Type 0} (before now : List S) : Type 0 wher
 
 -- the store of a node that made a part of the store calls of a step
 abbrev pub KeepsPart : Option worlds.Host → ServerInput → Option StoreState → Option StoreState → Type 0
-KeepsPart (Some h) i (Some before) (Some now) = chains.IsPart (saving.calls_of (server_steps.server_out h.server i).saves) before.told now.told
+KeepsPart (Some h) i (Some before) (Some now) = chains.IsSomeOf (saving.calls_of (server_steps.server_out h.server i).saves) before.told now.told
 KeepsPart _ _ _ _ = ⊥
 
 -- what a store tells stays

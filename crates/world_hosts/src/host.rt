@@ -88,7 +88,7 @@ impl Host {
 
     /// Takes what the node keeps, and leaves a node that is down.
     fn take_kept(&mut self, alloc: Global) -> Loaded
-        ensures kept { result ≡ views.kept_of self.old.standing }
+        ensures kept { result ≡ views.kept_for_sure self.old.standing }
         ensures clock { self.new.clock ≡ self.old.clock }
         ensures down { views.stands_up self.new.standing ≡ false }
     {
@@ -108,7 +108,7 @@ impl Host {
 
     /// The node goes down, with all that it keeps in its store.
     pub(crate) fn fall(&mut self, alloc: Global)
-        ensures { self.new ≡ record { clock = self.old.clock; standing = standing.Down (views.kept_of self.old.standing) [] } }
+        ensures { self.new ≡ record { clock = self.old.clock; standing = standing.Down (views.kept_for_sure self.old.standing) [] } }
     {
         let kept = self.take_kept(alloc);
         self.standing = Standing::Down {
@@ -126,7 +126,7 @@ impl Host {
         replaced: Replaced,
     ) -> Result<(), NoMemory>
         requires made { chains.has_call call saves ≡ true }
-        ensures halted { OnOk result ((kept : KeptLoaded) → replacing.LeadsTo kept saves replaced (views.kept_of self.old.standing) → self.new ≡ host_steps.halted_host self.old kept (saving.calls_of saves) (chains.calls_before call saves)) }
+        ensures halted { OnOk result ((kept : KeptLoaded) → replacing.LeadsTo kept saves replaced (views.kept_for_sure self.old.standing) → self.new ≡ host_steps.halted_host self.old kept (saving.calls_of saves) (chains.saves_before call saves)) }
         ensures memory { OnErr result (chains.leaves_nothing call ≡ true) }
     {
         let after = self.take_kept(alloc);
@@ -161,11 +161,11 @@ impl Host {
         store: &mut S,
         input: &ServerInput,
     ) -> Result<Served, NoMemory>
-        requires may { host_steps.MayServe self.old.standing input.now }
-        requires matches { host_steps.Matches self.old.standing (S.told store.old) (S.needs_load store.old) }
+        requires may { host_steps.MayBeServed self.old.standing input.now }
+        requires matches { host_steps.MatchesStore self.old.standing (S.told store.old) (S.needs_load store.old) }
         ensures served { IfOk result (λ served. host_steps.ServesAs self.old input.now self.new served) }
-        ensures matches { OnOk result (host_steps.Matches self.new.standing (S.told store.new) (S.needs_load store.new)) }
-        ensures part { OnErr result (chains.IsPart (saving.calls_of (server_steps.server_out (host_steps.server_in self.old.standing) input.now).saves) (S.told store.old) (S.told store.new)) }
+        ensures matches { OnOk result (host_steps.MatchesStore self.new.standing (S.told store.new) (S.needs_load store.new)) }
+        ensures part { OnErr result (chains.IsSomeOf (saving.calls_of (server_steps.server_out (host_steps.server_in self.old.standing) input.now).saves) (S.told store.old) (S.told store.new)) }
         ensures tells { matching.Tells (S.told store.old) → matching.Tells (S.told store.new) }
     {
         let replaced = self.replaced_by(alloc, input)?;
@@ -175,7 +175,7 @@ impl Host {
 
     /// What a step of a node that is up may replace of what it keeps.
     fn replaced_by(&self, alloc: Global, input: &ServerInput) -> Result<Replaced, NoMemory>
-        requires { host_steps.MayServe self.now.standing input.now }
+        requires { host_steps.MayBeServed self.now.standing input.now }
         ensures { IfOk result (λ replaced. host_steps.IsReplacedBy (host_steps.server_in self.now.standing) input.now replaced) }
     {
         match &self.standing {
@@ -186,7 +186,7 @@ impl Host {
 
     /// The step of the server of a node that is up.
     fn step(&mut self, input: &ServerInput) -> Result<ServerOut, NoMemory>
-        requires { host_steps.MayServe self.old.standing input.now }
+        requires { host_steps.MayBeServed self.old.standing input.now }
         ensures out { IfOk result (λ out. out ≡ server_steps.server_out (host_steps.server_in self.old.standing) input.now) }
         ensures after { OnOk result (self.new ≡ host_steps.served_host self.old input.now) }
     {
@@ -206,9 +206,9 @@ impl Host {
         replaced: Replaced,
     ) -> Result<Served, NoMemory>
         requires loaded { S.needs_load store.old ≡ false }
-        requires within { chains.CutsWithin out.saves.cut (S.told store.old) }
-        ensures kept { IfOk result (λ served. host_steps.Keeps self.old out replaced self.new (S.told store.old) (S.told store.new) (S.needs_load store.new) served) }
-        ensures part { OnErr result (chains.IsPart (saving.calls_of out.saves) (S.told store.old) (S.told store.new)) }
+        requires within { chains.CutsWithinTold out.saves.cut (S.told store.old) }
+        ensures kept { IfOk result (λ served. host_steps.KeepsOrFalls self.old out replaced self.new (S.told store.old) (S.told store.new) (S.needs_load store.new) served) }
+        ensures part { OnErr result (chains.IsSomeOf (saving.calls_of out.saves) (S.told store.old) (S.told store.new)) }
     {
         match save_all(store, &out.saves) {
             Ok(()) => Ok(Served::Fine { out }),
@@ -231,9 +231,9 @@ impl Host {
         requires within { nodes ≤ MAX_NODES }
         requires low { 1 ≤ timeout }
         requires high { timeout ≤ MAX_TIMEOUT }
-        requires matches { host_steps.Matches self.old.standing (S.told store.old) (S.needs_load store.old) }
+        requires matches { host_steps.MatchesStore self.old.standing (S.told store.old) (S.needs_load store.old) }
         ensures loaded { IfOk result (λ o. host_steps.LoadsAs nodes timeout me (S.told store.old) self.old self.new o) }
-        ensures matches { OnOk result (host_steps.Matches self.new.standing (S.told store.new) (S.needs_load store.new)) }
+        ensures matches { OnOk result (host_steps.MatchesStore self.new.standing (S.told store.new) (S.needs_load store.new)) }
         ensures told { S.told store.new ≡ S.told store.old }
     {
         let Some(loaded) = load_store(store)? else {
@@ -248,7 +248,7 @@ impl Host {
 
     /// How many entries what was loaded has beyond those that the node keeps for sure.
     fn added_in(&self, loaded: &Loaded) -> u64
-        ensures { result ≡ length loaded.now.log - length (views.kept_of self.now.standing).log }
+        ensures { result ≡ length loaded.now.log - length (views.kept_for_sure self.now.standing).log }
     {
         let kept = match &self.standing {
             Standing::Up { server } => server.log().len(),

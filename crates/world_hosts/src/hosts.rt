@@ -37,7 +37,7 @@ impl Model for Hosts {
 
     ghost view = { λ a. record { timeout = a.timeout; hosts = views.hosts_from (length a.hosts.items) a.timeout 1 a.hosts.items; is_spent = a.is_spent } };
 
-    ghost invariant = { λ a. views.IsWithin (length a.hosts.items) a.timeout × (a.is_spent ≡ false → views.IsReady a.hosts.items a.up.items) };
+    ghost invariant = { λ a. views.ClusterIsWithin (length a.hosts.items) a.timeout × (a.is_spent ≡ false → views.IsReady a.hosts.items a.up.items) };
 }
 
 impl Hosts {
@@ -105,7 +105,7 @@ impl Hosts {
 
     /// The node that is up and leads in the greatest term.
     pub fn leader_now(&self) -> Option<NodeId>
-        ensures { result ≡ worlds.leader_now (plans.world_of self.now) }
+        ensures { result ≡ worlds.leader_now (plans.world_of_hosts self.now) }
     {
         let mut best = None;
         let mut greatest = 0;
@@ -151,12 +151,12 @@ impl Hosts {
     ) -> Result<Served, NoMemory>
         requires whole { self.old.is_spent ≡ false }
         requires may { plans.MayServe node (length self.old.hosts) (lists.at_place self.old.hosts node) input.now }
-        requires matches { matching.StoresMatch self.old.hosts (matching.states_of S.told S.needs_load stores.old.items) }
+        requires matches { matching.StoresMatch self.old.hosts (matching.store_states_of S.told S.needs_load stores.old.items) }
         ensures served { IfOk result (λ served. plans.ServesAt self.old node (lists.at_place self.old.hosts node) input.now self.new served) }
-        ensures matches { OnOk result (matching.StoresMatch self.new.hosts (matching.states_of S.told S.needs_load stores.new.items)) }
+        ensures matches { OnOk result (matching.StoresMatch self.new.hosts (matching.store_states_of S.told S.needs_load stores.new.items)) }
         ensures others { matching.OthersStay node stores.old.items stores.new.items }
-        ensures telling { matching.AreTelling (matching.states_of S.told S.needs_load stores.old.items) → matching.AreTelling (matching.states_of S.told S.needs_load stores.new.items) }
-        ensures part { OnErr result (matching.KeepsPart (lists.at_place self.old.hosts node) input.now (lists.at_place (matching.states_of S.told S.needs_load stores.old.items) node) (lists.at_place (matching.states_of S.told S.needs_load stores.new.items) node)) }
+        ensures telling { matching.AreTelling (matching.store_states_of S.told S.needs_load stores.old.items) → matching.AreTelling (matching.store_states_of S.told S.needs_load stores.new.items) }
+        ensures part { OnErr result (matching.KeepsPart (lists.at_place self.old.hosts node) input.now (lists.at_place (matching.store_states_of S.told S.needs_load stores.old.items) node) (lists.at_place (matching.store_states_of S.told S.needs_load stores.new.items) node)) }
         ensures spent { OnErr result (self.new.is_spent ≡ true) }
     {
         self.is_spent = true;
@@ -178,13 +178,13 @@ impl Hosts {
         requires whole { self.old.is_spent ≡ false }
         requires known { node ≤ length self.old.hosts }
         requires down { worlds.up_in (lists.at_place self.old.hosts node) ≡ false }
-        requires matches { matching.StoresMatch self.old.hosts (matching.states_of S.told S.needs_load stores.old.items) }
-        ensures loaded { IfOk result (λ o. matching.IsTelling (lists.at_place (matching.states_of S.told S.needs_load stores.old.items) node) → plans.LoadsAt self.old node (lists.at_place self.old.hosts node) self.new o) }
-        ensures matches { OnOk result (matching.StoresMatch self.new.hosts (matching.states_of S.told S.needs_load stores.new.items)) }
+        requires matches { matching.StoresMatch self.old.hosts (matching.store_states_of S.told S.needs_load stores.old.items) }
+        ensures loaded { IfOk result (λ o. matching.IsTelling (lists.at_place (matching.store_states_of S.told S.needs_load stores.old.items) node) → plans.LoadsAt self.old node (lists.at_place self.old.hosts node) self.new o) }
+        ensures matches { OnOk result (matching.StoresMatch self.new.hosts (matching.store_states_of S.told S.needs_load stores.new.items)) }
         ensures unspent { OnOk result (self.new.is_spent ≡ false) }
         ensures others { matching.OthersStay node stores.old.items stores.new.items }
-        ensures telling { matching.AreTelling (matching.states_of S.told S.needs_load stores.old.items) → matching.AreTelling (matching.states_of S.told S.needs_load stores.new.items) }
-        ensures told { matching.ToldStays (lists.at_place (matching.states_of S.told S.needs_load stores.old.items) node) (lists.at_place (matching.states_of S.told S.needs_load stores.new.items) node) }
+        ensures telling { matching.AreTelling (matching.store_states_of S.told S.needs_load stores.old.items) → matching.AreTelling (matching.store_states_of S.told S.needs_load stores.new.items) }
+        ensures told { matching.ToldStays (lists.at_place (matching.store_states_of S.told S.needs_load stores.old.items) node) (lists.at_place (matching.store_states_of S.told S.needs_load stores.new.items) node) }
         ensures spent { OnErr result (self.new.is_spent ≡ true) }
     {
         self.is_spent = true;
@@ -212,7 +212,7 @@ fn host_at(alloc: Global, number: u8, nodes: u8, timeout: u64) -> Host
     requires high { timeout ≤ MAX_TIMEOUT }
     ensures host { views.host_of nodes timeout number result ≡ worlds.new_host nodes timeout number }
     ensures up { views.stands_up result.standing ≡ true }
-    ensures whole { views.IsWhole result.standing }
+    ensures whole { views.StandsWhole result.standing }
 {
     let Some(me) = NodeId::new(number) else {
         unreachable!()

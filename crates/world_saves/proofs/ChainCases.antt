@@ -71,7 +71,7 @@ left_first first call rest t u v e l = record {
       ∙ ap (λ o. chains.told_with (chains.told_after t (take (length first) (first ++ call ∷ rest))) (saving.at_stake o) l.added) (sym (get_behind first (call ∷ rest)));
 }
 
-part_first : (first rest : List saving.Save) (t v : stores.Told) → v ≡ chains.told_after t first → chains.IsPart (first ++ rest) t v
+part_first : (first rest : List saving.Save) (t v : stores.Told) → v ≡ chains.told_after t first → chains.IsSomeOf (first ++ rest) t v
 part_first first rest t v e = record { made = length first; same = e ∙ ap (λ cs. chains.told_after t cs) (sym (take_front first rest)) }
 
 at_call : (s : Saves) (c d : SaveCall) (before now : stores.Told) → d ≡ c → chains.FailsAt s c before now → chains.FailsAt s d before now
@@ -123,7 +123,7 @@ add_ended s t u v x r first second m =
           left = subst (λ cs. chains.IsLeftFrom cs (length (saving.vote_call w ++ saving.cut_call c)) t x) (grouped w c (y ∷ es)) (left_first (saving.vote_call w ++ saving.cut_call c) (saving.Add (y ∷ es)) [] t v x f m.1);
         })
     by_add w c (y ∷ es) (Err save_error.NoMemory) f m =
-        subst (λ cs. chains.IsPart cs t x) (grouped w c (y ∷ es)) (part_first (saving.vote_call w ++ saving.cut_call c) (saving.Add (y ∷ es) ∷ []) t x (m ∙ f))
+        subst (λ cs. chains.IsSomeOf cs t x) (grouped w c (y ∷ es)) (part_first (saving.vote_call w ++ saving.cut_call c) (saving.Add (y ∷ es) ∷ []) t x (m ∙ f))
 
 -- the same, of the entries as a slice
 pub slice_ended : (s : Saves) (es : List Entry) (t u v x : stores.Told) (r : Result (Unit {0}) SaveError) → es ≡ s.add → chains.MakesCall call.Vote (saving.vote_call s.vote) t u (Ok tt) → chains.MakesCall call.Cut (saving.cut_call s.cut) u v (Ok tt)
@@ -131,11 +131,11 @@ pub slice_ended : (s : Saves) (es : List Entry) (t u v x : stores.Told) (r : Res
 slice_ended s es t u v x r e first second m = add_ended s t u v x r first second (subst (λ ys. chains.MakesCall call.Add (saving.add_call ys) v x r) e m)
 
 -- a call that the step makes is one of its calls
-pub made_below : (c : SaveCall) (s : Saves) → chains.has_call c s ≡ true → nat_lt (chains.calls_before c s) (length (saving.calls_of s)) ≡ true
+pub made_below : (c : SaveCall) (s : Saves) → chains.has_call c s ≡ true → nat_lt (chains.saves_before c s) (length (saving.calls_of s)) ≡ true
 made_below c s e = by_call c s.vote s.cut s.add e
   where
     by_call : (c : SaveCall) (v : Option (ℕ × Option ℕ)) (o : Option ℕ) (es : List Entry) → chains.has_call c (record { vote = v; cut = o; add = es }) ≡ true
-        → nat_lt (chains.calls_before c (record { vote = v; cut = o; add = es })) (length (saving.vote_call v ++ (saving.cut_call o ++ saving.add_call es))) ≡ true
+        → nat_lt (chains.saves_before c (record { vote = v; cut = o; add = es })) (length (saving.vote_call v ++ (saving.cut_call o ++ saving.add_call es))) ≡ true
     by_call call.Vote None o es e = cc
     by_call call.Vote (Some v) o es e = grind (arith, nat_tests)
     by_call call.Cut v None es e = cc
@@ -156,16 +156,16 @@ told_with_nothing (stores.Bad at) added = refl
 told_with_nothing stores.Untold added = refl
 
 -- where a vote or a cut failed the store is as after the calls before it
-pub part_failed : (s : Saves) (c : SaveCall) (before now : stores.Told) → chains.FailsAt s c before now → chains.leaves_nothing c ≡ true → chains.IsPart (saving.calls_of s) before now
+pub part_failed : (s : Saves) (c : SaveCall) (before now : stores.Told) → chains.FailsAt s c before now → chains.leaves_nothing c ≡ true → chains.IsSomeOf (saving.calls_of s) before now
 part_failed s c before now f e = record {
-  made = chains.calls_before c s;
+  made = chains.saves_before c s;
   same = f.left.same
-      ∙ ap (λ es. chains.told_with (chains.told_after before (take (chains.calls_before c s) (saving.calls_of s))) es f.left.added) (nothing c s.vote s.cut s.add f.made e)
-      ∙ told_with_nothing (chains.told_after before (take (chains.calls_before c s) (saving.calls_of s))) f.left.added;
+      ∙ ap (λ es. chains.told_with (chains.told_after before (take (chains.saves_before c s) (saving.calls_of s))) es f.left.added) (nothing c s.vote s.cut s.add f.made e)
+      ∙ told_with_nothing (chains.told_after before (take (chains.saves_before c s) (saving.calls_of s))) f.left.added;
 }
   where
     nothing : (c : SaveCall) (v : Option (ℕ × Option ℕ)) (o : Option ℕ) (es : List Entry) → chains.has_call c (record { vote = v; cut = o; add = es }) ≡ true → chains.leaves_nothing c ≡ true
-        → saving.at_stake (slice_get (saving.vote_call v ++ (saving.cut_call o ++ saving.add_call es)) (chains.calls_before c (record { vote = v; cut = o; add = es }))) ≡ []
+        → saving.at_stake (slice_get (saving.vote_call v ++ (saving.cut_call o ++ saving.add_call es)) (chains.saves_before c (record { vote = v; cut = o; add = es }))) ≡ []
     nothing call.Vote None o es h e = cc
     nothing call.Vote (Some v) o es h e = refl
     nothing call.Cut v None es h e = cc
@@ -174,7 +174,7 @@ part_failed s c before now f e = record {
     nothing call.Add v o es h e = cc
 
 -- no call was made
-pub part_none : (calls : List saving.Save) (t : stores.Told) → chains.IsPart calls t t
+pub part_none : (calls : List saving.Save) (t : stores.Told) → chains.IsSomeOf calls t t
 part_none calls t = record { made = 0; same = sym (ap (λ cs. chains.told_after t cs) (none calls) ∙ told_none t) }
   where
     none : (cs : List saving.Save) → take 0 cs ≡ []

@@ -81,13 +81,13 @@ ballot_is : (kept : Loaded) (s : Saves) (after : Loaded) (log : List Entry) → 
 ballot_is kept s after log e = ap (λ (k : Loaded). let l : Loaded = record k { log = log } in l) (e ∙ all_is s.vote s.cut s.add kept)
 
 pub vote_is_kept_before : (kept : Loaded) (s : Saves) (r : Replaced) (after : Loaded) → replacing.LeadsTo kept s r after
-    → record { term = r.term; vote = r.vote; log = staying after s ++ replacing.if_cut s.cut r.cut_off } ≡ saving.kept_at_failure kept (saving.calls_of s) (chains.calls_before call.Vote s)
+    → record { term = r.term; vote = r.vote; log = staying after s ++ replacing.if_cut s.cut r.cut_off } ≡ saving.kept_at_failure kept (saving.calls_of s) (chains.saves_before call.Vote s)
 vote_is_kept_before kept s r after l =
     (λ i. record { term = l.replaced.term i; vote = l.replaced.vote i; log = (ap (λ ys. ys ++ replacing.if_cut s.cut r.cut_off) (stays kept s after l.all) ∙ restored s.cut kept.log r.cut_off l.replaced.cut_off) i })
     ∙ sym (before_vote s kept)
 
 pub cut_is_kept_before : (kept : Loaded) (s : Saves) (r : Replaced) (after : Loaded) → replacing.LeadsTo kept s r after
-    → record after { log = staying after s ++ replacing.if_cut s.cut r.cut_off } ≡ saving.kept_at_failure kept (saving.calls_of s) (chains.calls_before call.Cut s)
+    → record after { log = staying after s ++ replacing.if_cut s.cut r.cut_off } ≡ saving.kept_at_failure kept (saving.calls_of s) (chains.saves_before call.Cut s)
 cut_is_kept_before kept s r after l =
     ap (λ log. let k : Loaded = record after { log = log } in k) (ap (λ ys. ys ++ replacing.if_cut s.cut r.cut_off) (stays kept s after l.all) ∙ restored s.cut kept.log r.cut_off l.replaced.cut_off)
     ∙ ballot_is kept s after kept.log l.all
@@ -99,7 +99,7 @@ cut_is_kept_before kept s r after l =
     same_log (Some v) = refl
 
 pub add_is_kept_before : (kept : Loaded) (s : Saves) (r : Replaced) (after : Loaded) → replacing.LeadsTo kept s r after
-    → record after { log = staying after s } ≡ saving.kept_at_failure kept (saving.calls_of s) (chains.calls_before call.Add s)
+    → record after { log = staying after s } ≡ saving.kept_at_failure kept (saving.calls_of s) (chains.saves_before call.Add s)
 add_is_kept_before kept s r after l =
     ap (λ log. let k : Loaded = record after { log = log } in k) (stays kept s after l.all)
     ∙ ballot_is kept s after (cut_log s.cut kept.log) l.all

@@ -24,10 +24,10 @@ told_with (stores.Bad at) es added = stores.Bad at
 told_with stores.Untold es added = stores.Untold
 
 -- how many calls stand before one of a step, and whether the step makes it
-abbrev pub calls_before : SaveCall → Saves → ℕ
-calls_before call.Vote s = 0
-calls_before call.Cut s = length (saving.vote_call s.vote)
-calls_before call.Add s = length (saving.vote_call s.vote ++ saving.cut_call s.cut)
+abbrev pub saves_before : SaveCall → Saves → ℕ
+saves_before call.Vote s = 0
+saves_before call.Cut s = length (saving.vote_call s.vote)
+saves_before call.Add s = length (saving.vote_call s.vote ++ saving.cut_call s.cut)
 
 abbrev pub has_entry : List Entry → Bool
 has_entry [] = false
@@ -51,10 +51,10 @@ pub record IsLeftFrom (calls : List saving.Save) (n : ℕ) (before now : stores.
 
 pub record FailsAt (s : Saves) (c : SaveCall) (before now : stores.Told) : Type 0 where
   pub made : has_call c s ≡ true
-  pub left : IsLeftFrom (saving.calls_of s) (calls_before c s) before now
+  pub left : IsLeftFrom (saving.calls_of s) (saves_before c s) before now
 
 -- some of the first calls were made
-pub record IsPart (calls : List saving.Save) (before now : stores.Told) : Type 0 where
+pub record IsSomeOf (calls : List saving.Save) (before now : stores.Told) : Type 0 where
   pub made : ℕ
   pub same : now ≡ told_after before (take made calls)
 
@@ -62,12 +62,12 @@ pub record IsPart (calls : List saving.Save) (before now : stores.Told) : Type 0
 abbrev pub SavesAll : Saves → stores.Told → stores.Told → Result (Unit {0}) SaveError → Type 0
 SavesAll s before now (Ok _) = now ≡ told_after before (saving.calls_of s)
 SavesAll s before now (Err (save_error.Failed c)) = FailsAt s c before now
-SavesAll s before now (Err save_error.NoMemory) = IsPart (saving.calls_of s) before now
+SavesAll s before now (Err save_error.NoMemory) = IsSomeOf (saving.calls_of s) before now
 
 -- a cut leaves no more entries than are kept
-abbrev pub CutsWithin : Option ℕ → stores.Told → Type 0
-CutsWithin None told = Unit {0}
-CutsWithin (Some last) told = stores.CutsWithin told last
+abbrev pub CutsWithinTold : Option ℕ → stores.Told → Type 0
+CutsWithinTold None told = Unit {0}
+CutsWithinTold (Some last) told = stores.CutsWithin told last
 
 -- what a store's answer to a call is for its step
 abbrev pub answer_of : SaveCall → Result (Unit {0}) StoreError → Result (Unit {0}) SaveError

@@ -25,7 +25,7 @@ pub fn kept_before(
     saves: &Saves,
     replaced: Replaced,
 ) -> Result<Loaded, NoMemory>
-    ensures before { IfOk result (λ before. (kept : KeptLoaded) → replacing.LeadsTo kept saves.now replaced after → before ≡ saving.kept_at_failure kept (saving.calls_of saves.now) (chains.calls_before call saves.now)) }
+    ensures before { IfOk result (λ before. (kept : KeptLoaded) → replacing.LeadsTo kept saves.now replaced after → before ≡ saving.kept_at_failure kept (saving.calls_of saves.now) (chains.saves_before call saves.now)) }
     ensures memory { OnErr result (chains.leaves_nothing call ≡ true) }
 {
     let staying = without_last(after.log, saves.add.len());
@@ -78,7 +78,7 @@ fn with_cut_off(
 /// The entries of which some may have stayed where one of the store calls of a step failed.
 pub fn entries_at_stake(alloc: Global, call: SaveCall, saves: Saves) -> List<Entry>
     requires { chains.has_call call saves ≡ true }
-    ensures { result ≡ saving.at_stake (slice_get (saving.calls_of saves) (chains.calls_before call saves)) }
+    ensures { result ≡ saving.at_stake (slice_get (saving.calls_of saves) (chains.saves_before call saves)) }
 {
     match call {
         SaveCall::Add => saves.add,

@@ -27,7 +27,7 @@ pub enum SaveError {
 #[tactic(auto, using(crate::proofs::ChainCases::vote_failed, crate::proofs::ChainCases::cut_failed))]
 pub fn save_all<S: NodeStore>(store: &mut S, saves: &Saves) -> Result<(), SaveError>
     requires loaded { S.needs_load store.old ≡ false }
-    requires within { chains.CutsWithin saves.now.cut (S.told store.old) }
+    requires within { chains.CutsWithinTold saves.now.cut (S.told store.old) }
     ensures saved { chains.SavesAll saves.now (S.told store.old) (S.told store.new) result }
     ensures ready { OnOk result (S.needs_load store.new ≡ false) }
 {
@@ -54,7 +54,7 @@ fn save_vote<S: NodeStore>(
 /// Keeps the log up to its entry `last`, where entries were cut.
 fn save_cut<S: NodeStore>(store: &mut S, cut: Option<u64>) -> Result<(), SaveError>
     requires loaded { S.needs_load store.old ≡ false }
-    requires within { chains.CutsWithin cut (S.told store.old) }
+    requires within { chains.CutsWithinTold cut (S.told store.old) }
     ensures made { chains.MakesCall calls.Cut (saving.cut_call cut) (S.told store.old) (S.told store.new) result }
     ensures ready { OnOk result (S.needs_load store.new ≡ false) }
 {
@@ -89,7 +89,7 @@ fn answer_of(call: SaveCall, answer: Result<(), StoreError>) -> Result<(), SaveE
 
 /// How many store calls of a step stand before one of them.
 pub fn calls_before(call: SaveCall, saves: &Saves) -> u64
-    ensures { result ≡ chains.calls_before call saves.now }
+    ensures { result ≡ chains.saves_before call saves.now }
 {
     let votes = u64::from(saves.vote.is_some());
     match call {

@@ -44,18 +44,18 @@ change_same (v ∷ ws) (suc i) w e = ap (λ x. v ∷ x) (change_same ws i w e)
 
 -- a plan at a client gives this step, and makes this client of it
 pub record IsPlanned (seats : List worlds.Watcher) (c : ℕ) (p : plans.Plan) (s : SeatStep) (new : worlds.Watcher) : Type 0 where
-  pub step : s ≡ seat_plans.step_of p
+  pub step : s ≡ seat_plans.seat_step_of p
   pub after : (calls : ℕ) → seat_plans.seats_after (record { seats = seats; calls = calls; is_spent = false }) p ≡ record { seats = positions.change_place (λ old. new) seats c; calls = suc calls; is_spent = false }
 
 shown_plan : (seats : List worlds.Watcher) (i : ℕ) (w : worlds.Watcher) (r : SkipReason) → slice_get seats i ≡ Some w
-    → IsPlanned seats (suc i) (plans.skips (seat_plans.world_of seats) r) (answers.skip_step r) w
+    → IsPlanned seats (suc i) (plans.skips (seat_plans.world_of_seats seats) r) (answers.skip_step r) w
 shown_plan seats i w r e = record {
   step = refl;
   after = λ calls. ap (λ (ss : List worlds.Watcher). let x : seat_plans.CountedSeats = record { seats = ss; calls = suc calls; is_spent = false } in x) (sym (change_same seats i w e));
 }
 
 asked_if : (seats : List worlds.Watcher) (i : ℕ) (w : worlds.Watcher) (r : Option SkipReason) (next : clients.ClientStep) → slice_get seats i ≡ Some w
-    → IsPlanned seats (suc i) (plans.client_asks_if (seat_plans.world_of seats) (suc i) w r next) (answers.asked_step (suc i) w r next) (answers.asked_watcher w r next)
+    → IsPlanned seats (suc i) (plans.client_asks_if (seat_plans.world_of_seats seats) (suc i) w r next) (answers.asked_step (suc i) w r next) (answers.asked_watcher w r next)
 asked_if seats i w None next e = record { step = refl; after = λ calls. refl }
 asked_if seats i w (Some r) next e = shown_plan seats i w r e
 
@@ -63,64 +63,64 @@ planned_at : (P : Option worlds.Watcher → Type 0) (o : Option worlds.Watcher) 
 planned_at P o w e h = subst P (sym e) h
 
 pub asked : (seats : List worlds.Watcher) (i : ℕ) (w : worlds.Watcher) (refusal : clients.Client → Option SkipReason) (next : clients.Client → clients.ClientStep) → slice_get seats i ≡ Some w
-    → IsPlanned seats (suc i) (plans.client_asks (seat_plans.world_of seats) (suc i) (slice_get seats i) refusal next) (answers.asked_step (suc i) w (refusal w.client) (next w.client)) (answers.asked_watcher w (refusal w.client) (next w.client))
+    → IsPlanned seats (suc i) (plans.client_asks (seat_plans.world_of_seats seats) (suc i) (slice_get seats i) refusal next) (answers.asked_step (suc i) w (refusal w.client) (next w.client)) (answers.asked_watcher w (refusal w.client) (next w.client))
 asked seats i w refusal next e =
-    planned_at (λ o. IsPlanned seats (suc i) (plans.client_asks (seat_plans.world_of seats) (suc i) o refusal next) (answers.asked_step (suc i) w (refusal w.client) (next w.client)) (answers.asked_watcher w (refusal w.client) (next w.client)))
+    planned_at (λ o. IsPlanned seats (suc i) (plans.client_asks (seat_plans.world_of_seats seats) (suc i) o refusal next) (answers.asked_step (suc i) w (refusal w.client) (next w.client)) (answers.asked_watcher w (refusal w.client) (next w.client)))
     (slice_get seats i) w e (asked_if seats i w (refusal w.client) (next w.client) e)
 
 called_if : (seats : List worlds.Watcher) (i : ℕ) (w : worlds.Watcher) (b : Bool) (next : clients.ClientStep) → slice_get seats i ≡ Some w
     → IsPlanned seats (suc i)
-    (cond b (plans.Shows (worlds.with_watcher (seat_plans.world_of seats) (suc i) (record w { client = clients.unsent w.client })) (answers.unsent_step w).items) (plans.client_asks_if (seat_plans.world_of seats) (suc i) w (clients.call_refusal w.client) next))
+    (cond b (plans.Shows (worlds.with_watcher (seat_plans.world_of_seats seats) (suc i) (record w { client = clients.unsent w.client })) (answers.unsent_step w).items) (plans.client_asks_if (seat_plans.world_of_seats seats) (suc i) w (clients.call_refusal w.client) next))
     (cond b (answers.unsent_step w) (answers.asked_step (suc i) w (clients.call_refusal w.client) next))
     (cond b (record w { client = clients.unsent w.client }) (answers.asked_watcher w (clients.call_refusal w.client) next))
 called_if seats i w true next e = record { step = refl; after = λ calls. refl }
 called_if seats i w false next e = asked_if seats i w (clients.call_refusal w.client) next e
 
 pub called : (seats : List worlds.Watcher) (i : ℕ) (w : worlds.Watcher) (next : clients.Client → clients.ClientStep) → slice_get seats i ≡ Some w
-    → IsPlanned seats (suc i) (plans.calls_at (seat_plans.world_of seats) (suc i) (slice_get seats i) next) (answers.called_step (suc i) w (next w.client)) (answers.called_watcher w (next w.client))
+    → IsPlanned seats (suc i) (plans.calls_at (seat_plans.world_of_seats seats) (suc i) (slice_get seats i) next) (answers.called_step (suc i) w (next w.client)) (answers.called_watcher w (next w.client))
 called seats i w next e =
-    planned_at (λ o. IsPlanned seats (suc i) (plans.calls_at (seat_plans.world_of seats) (suc i) o next) (answers.called_step (suc i) w (next w.client)) (answers.called_watcher w (next w.client)))
+    planned_at (λ o. IsPlanned seats (suc i) (plans.calls_at (seat_plans.world_of_seats seats) (suc i) o next) (answers.called_step (suc i) w (next w.client)) (answers.called_watcher w (next w.client)))
     (slice_get seats i) w e (called_if seats i w (clients.has_ended w.client.state) (next w.client) e)
 
 watching_if : (seats : List worlds.Watcher) (i : ℕ) (w : worlds.Watcher) (b : Bool) (kind : WatchKind) → slice_get seats i ≡ Some w
     → IsPlanned seats (suc i)
-    (cond b (plans.skips (seat_plans.world_of seats) reason.Watched) (plans.shows_nothing (worlds.with_watcher (seat_plans.world_of seats) (suc i) (record w { watches = w.watches ++ kind ∷ [] }))))
+    (cond b (plans.skips (seat_plans.world_of_seats seats) reason.Watched) (plans.shows_nothing (worlds.with_watcher (seat_plans.world_of_seats seats) (suc i) (record w { watches = w.watches ++ kind ∷ [] }))))
     (cond b (answers.skip_step reason.Watched) (record { items = []; packets = [] }))
     (cond b w (record w { watches = w.watches ++ kind ∷ [] }))
 watching_if seats i w true kind e = shown_plan seats i w reason.Watched e
 watching_if seats i w false kind e = record { step = refl; after = λ calls. refl }
 
 pub watching : (seats : List worlds.Watcher) (i : ℕ) (w : worlds.Watcher) (kind : WatchKind) → slice_get seats i ≡ Some w
-    → IsPlanned seats (suc i) (plans.watches_at (seat_plans.world_of seats) (suc i) kind (slice_get seats i)) (answers.watching_step w kind) (answers.watching w kind)
+    → IsPlanned seats (suc i) (plans.watches_at (seat_plans.world_of_seats seats) (suc i) kind (slice_get seats i)) (answers.watching_step w kind) (answers.watching w kind)
 watching seats i w kind e =
-    planned_at (λ o. IsPlanned seats (suc i) (plans.watches_at (seat_plans.world_of seats) (suc i) kind o) (answers.watching_step w kind) (answers.watching w kind))
+    planned_at (λ o. IsPlanned seats (suc i) (plans.watches_at (seat_plans.world_of_seats seats) (suc i) kind o) (answers.watching_step w kind) (answers.watching w kind))
     (slice_get seats i) w e (watching_if seats i w (list_any (plans.same_kind kind) w.watches) kind e)
 
 pub received : (seats : List worlds.Watcher) (i k : ℕ) (w : worlds.Watcher) (p : Payload) → slice_get seats i ≡ Some w
-    → IsPlanned seats (suc i) (plans.receives_from (seat_plans.world_of seats) (suc i) p (end.Node k) (slice_get seats i)) (answers.asked_step (suc i) w None (receipts.receives w.client k p)) (answers.asked_watcher w None (receipts.receives w.client k p))
+    → IsPlanned seats (suc i) (plans.receives_from (seat_plans.world_of_seats seats) (suc i) p (end.Node k) (slice_get seats i)) (answers.asked_step (suc i) w None (receipts.receives w.client k p)) (answers.asked_watcher w None (receipts.receives w.client k p))
 received seats i k w p e =
-    planned_at (λ o. IsPlanned seats (suc i) (plans.receives_from (seat_plans.world_of seats) (suc i) p (end.Node k) o) (answers.asked_step (suc i) w None (receipts.receives w.client k p)) (answers.asked_watcher w None (receipts.receives w.client k p)))
+    planned_at (λ o. IsPlanned seats (suc i) (plans.receives_from (seat_plans.world_of_seats seats) (suc i) p (end.Node k) o) (answers.asked_step (suc i) w None (receipts.receives w.client k p)) (answers.asked_watcher w None (receipts.receives w.client k p)))
     (slice_get seats i) w e (record { step = refl; after = λ calls. refl })
 
 pub asked_at : (seats : List worlds.Watcher) (i c : ℕ) (w : worlds.Watcher) (refusal : clients.Client → Option SkipReason) (next : clients.Client → clients.ClientStep) → suc i ≡ c → slice_get seats i ≡ Some w
-    → IsPlanned seats c (plans.client_asks (seat_plans.world_of seats) c (lists.at_place seats c) refusal next) (answers.asked_step c w (refusal w.client) (next w.client)) (answers.asked_watcher w (refusal w.client) (next w.client))
+    → IsPlanned seats c (plans.client_asks (seat_plans.world_of_seats seats) c (lists.at_place seats c) refusal next) (answers.asked_step c w (refusal w.client) (next w.client)) (answers.asked_watcher w (refusal w.client) (next w.client))
 asked_at seats i c w refusal next same e =
-    subst (λ k. IsPlanned seats k (plans.client_asks (seat_plans.world_of seats) k (lists.at_place seats k) refusal next) (answers.asked_step k w (refusal w.client) (next w.client)) (answers.asked_watcher w (refusal w.client) (next w.client))) same (asked seats i w refusal next e)
+    subst (λ k. IsPlanned seats k (plans.client_asks (seat_plans.world_of_seats seats) k (lists.at_place seats k) refusal next) (answers.asked_step k w (refusal w.client) (next w.client)) (answers.asked_watcher w (refusal w.client) (next w.client))) same (asked seats i w refusal next e)
 
 pub called_at : (seats : List worlds.Watcher) (i c : ℕ) (w : worlds.Watcher) (next : clients.Client → clients.ClientStep) → suc i ≡ c → slice_get seats i ≡ Some w
-    → IsPlanned seats c (plans.calls_at (seat_plans.world_of seats) c (lists.at_place seats c) next) (answers.called_step c w (next w.client)) (answers.called_watcher w (next w.client))
+    → IsPlanned seats c (plans.calls_at (seat_plans.world_of_seats seats) c (lists.at_place seats c) next) (answers.called_step c w (next w.client)) (answers.called_watcher w (next w.client))
 called_at seats i c w next same e =
-    subst (λ k. IsPlanned seats k (plans.calls_at (seat_plans.world_of seats) k (lists.at_place seats k) next) (answers.called_step k w (next w.client)) (answers.called_watcher w (next w.client))) same (called seats i w next e)
+    subst (λ k. IsPlanned seats k (plans.calls_at (seat_plans.world_of_seats seats) k (lists.at_place seats k) next) (answers.called_step k w (next w.client)) (answers.called_watcher w (next w.client))) same (called seats i w next e)
 
 pub watching_at : (seats : List worlds.Watcher) (i c : ℕ) (w : worlds.Watcher) (kind : WatchKind) → suc i ≡ c → slice_get seats i ≡ Some w
-    → IsPlanned seats c (plans.watches_at (seat_plans.world_of seats) c kind (lists.at_place seats c)) (answers.watching_step w kind) (answers.watching w kind)
+    → IsPlanned seats c (plans.watches_at (seat_plans.world_of_seats seats) c kind (lists.at_place seats c)) (answers.watching_step w kind) (answers.watching w kind)
 watching_at seats i c w kind same e =
-    subst (λ k. IsPlanned seats k (plans.watches_at (seat_plans.world_of seats) k kind (lists.at_place seats k)) (answers.watching_step w kind) (answers.watching w kind)) same (watching seats i w kind e)
+    subst (λ k. IsPlanned seats k (plans.watches_at (seat_plans.world_of_seats seats) k kind (lists.at_place seats k)) (answers.watching_step w kind) (answers.watching w kind)) same (watching seats i w kind e)
 
 pub received_at : (seats : List worlds.Watcher) (i c : ℕ) (k : ℕ) (w : worlds.Watcher) (p : Payload) → suc i ≡ c → slice_get seats i ≡ Some w
-    → IsPlanned seats c (plans.receives_from (seat_plans.world_of seats) c p (end.Node k) (lists.at_place seats c)) (answers.asked_step c w None (receipts.receives w.client k p)) (answers.asked_watcher w None (receipts.receives w.client k p))
+    → IsPlanned seats c (plans.receives_from (seat_plans.world_of_seats seats) c p (end.Node k) (lists.at_place seats c)) (answers.asked_step c w None (receipts.receives w.client k p)) (answers.asked_watcher w None (receipts.receives w.client k p))
 received_at seats i c k w p same e =
-    subst (λ d. IsPlanned seats d (plans.receives_from (seat_plans.world_of seats) d p (end.Node k) (lists.at_place seats d)) (answers.asked_step d w None (receipts.receives w.client k p)) (answers.asked_watcher w None (receipts.receives w.client k p))) same (received seats i k w p e)
+    subst (λ d. IsPlanned seats d (plans.receives_from (seat_plans.world_of_seats seats) d p (end.Node k) (lists.at_place seats d)) (answers.asked_step d w None (receipts.receives w.client k p)) (answers.asked_watcher w None (receipts.receives w.client k p))) same (received seats i k w p e)
 
 member : (P : answers.CountedWatcher → Type 0) (xs : List answers.CountedWatcher) (i : ℕ) (x : answers.CountedWatcher) → AllByRecursion P xs → slice_get xs i ≡ Some x → P x
 member P [] i x h e = cc

@@ -19,15 +19,15 @@ pub record CountedSeats : Type 0 where
   pub is_spent : Bool
 
 -- a world of these clients alone
-abbrev pub world_of : List worlds.Watcher → worlds.World
-world_of seats = record { timeout = 0; hosts = []; seats = seats; bag = bags.empty_bag; history = [] }
+abbrev pub world_of_seats : List worlds.Watcher → worlds.World
+world_of_seats seats = record { timeout = 0; hosts = []; seats = seats; bag = bags.empty_bag; history = [] }
 
 -- what a step asks of these clients, and a payload from a node
 abbrev pub plan_at : CountedSeats → Step → plans.Plan
-plan_at s st = plans.plan (world_of s.seats) st
+plan_at s st = plans.plan (world_of_seats s.seats) st
 
 abbrev pub receipt_at : CountedSeats → ℕ → ℕ → Payload → plans.Plan
-receipt_at s c k payload = plans.receives_from (world_of s.seats) c payload (end.Node k) (lists.at_place s.seats c)
+receipt_at s c k payload = plans.receives_from (world_of_seats s.seats) c payload (end.Node k) (lists.at_place s.seats c)
 
 -- the packets that a client's plan sends
 abbrev pub packets_of : plans.Plan → List Packet
@@ -37,8 +37,8 @@ packets_of (plans.Loads w k h) = []
 packets_of (plans.Shows w items) = []
 
 -- what a client's plan gives, and the clients after it
-abbrev pub step_of : plans.Plan → SeatStep
-step_of p = record { items = (moves.carried p outcome.Fine).items; packets = packets_of p }
+abbrev pub seat_step_of : plans.Plan → SeatStep
+seat_step_of p = record { items = (moves.carried p outcome.Fine).items; packets = packets_of p }
 
 abbrev pub seats_after : CountedSeats → plans.Plan → CountedSeats
 seats_after s p = record s { seats = (moves.carried p outcome.Fine).world.seats; calls = suc s.calls }

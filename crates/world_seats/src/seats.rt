@@ -97,7 +97,7 @@ impl Seats {
         requires whole { self.old.is_spent ≡ false }
         requires room { self.old.calls < 2 ^ 32 }
         requires known { client ≤ length self.old.seats }
-        ensures ok { IfOk result (λ s. s ≡ plans.step_of (plans.plan_at self.old (step.Open client node))) }
+        ensures ok { IfOk result (λ s. s ≡ plans.seat_step_of (plans.plan_at self.old (step.Open client node))) }
         ensures after { OnOk result (self.new ≡ plans.seats_after self.old (plans.plan_at self.old (step.Open client node))) }
         ensures err { OnErr result (self.new.is_spent ≡ true) }
     {
@@ -114,7 +114,7 @@ impl Seats {
         requires whole { self.old.is_spent ≡ false }
         requires room { self.old.calls < 2 ^ 32 }
         requires known { client ≤ length self.old.seats }
-        ensures ok { IfOk result (λ s. s ≡ plans.step_of (plans.plan_at self.old (step.Switch client node))) }
+        ensures ok { IfOk result (λ s. s ≡ plans.seat_step_of (plans.plan_at self.old (step.Switch client node))) }
         ensures after { OnOk result (self.new ≡ plans.seats_after self.old (plans.plan_at self.old (step.Switch client node))) }
         ensures err { OnErr result (self.new.is_spent ≡ true) }
     {
@@ -131,7 +131,7 @@ impl Seats {
         requires whole { self.old.is_spent ≡ false }
         requires room { self.old.calls < 2 ^ 32 }
         requires known { client ≤ length self.old.seats }
-        ensures ok { IfOk result (λ s. s ≡ plans.step_of (plans.plan_at self.old (step.Resend client))) }
+        ensures ok { IfOk result (λ s. s ≡ plans.seat_step_of (plans.plan_at self.old (step.Resend client))) }
         ensures after { OnOk result (self.new ≡ plans.seats_after self.old (plans.plan_at self.old (step.Resend client))) }
         ensures err { OnErr result (self.new.is_spent ≡ true) }
     {
@@ -148,7 +148,7 @@ impl Seats {
         requires whole { self.old.is_spent ≡ false }
         requires room { self.old.calls < 2 ^ 32 }
         requires known { client ≤ length self.old.seats }
-        ensures ok { IfOk result (λ s. s ≡ plans.step_of (plans.plan_at self.old (step.Keep client))) }
+        ensures ok { IfOk result (λ s. s ≡ plans.seat_step_of (plans.plan_at self.old (step.Keep client))) }
         ensures after { OnOk result (self.new ≡ plans.seats_after self.old (plans.plan_at self.old (step.Keep client))) }
         ensures err { OnErr result (self.new.is_spent ≡ true) }
     {
@@ -165,7 +165,7 @@ impl Seats {
         requires whole { self.old.is_spent ≡ false }
         requires room { self.old.calls < 2 ^ 32 }
         requires known { client ≤ length self.old.seats }
-        ensures ok { IfOk result (λ s. s ≡ plans.step_of (plans.plan_at self.old (step.Close client))) }
+        ensures ok { IfOk result (λ s. s ≡ plans.seat_step_of (plans.plan_at self.old (step.Close client))) }
         ensures after { OnOk result (self.new ≡ plans.seats_after self.old (plans.plan_at self.old (step.Close client))) }
         ensures err { OnErr result (self.new.is_spent ≡ true) }
     {
@@ -182,7 +182,7 @@ impl Seats {
         requires whole { self.old.is_spent ≡ false }
         requires room { self.old.calls < 2 ^ 32 }
         requires known { client ≤ length self.old.seats }
-        ensures ok { IfOk result (λ s. s ≡ plans.step_of (plans.plan_at self.old (step.Watch client kind))) }
+        ensures ok { IfOk result (λ s. s ≡ plans.seat_step_of (plans.plan_at self.old (step.Watch client kind))) }
         ensures after { OnOk result (self.new ≡ plans.seats_after self.old (plans.plan_at self.old (step.Watch client kind))) }
         ensures err { OnErr result (self.new.is_spent ≡ true) }
     {
@@ -199,7 +199,7 @@ impl Seats {
         requires whole { self.old.is_spent ≡ false }
         requires room { self.old.calls < 2 ^ 32 }
         requires known { client ≤ length self.old.seats }
-        ensures ok { IfOk result (λ s. s ≡ plans.step_of (plans.plan_at self.old (step.Call client name.now op.now))) }
+        ensures ok { IfOk result (λ s. s ≡ plans.seat_step_of (plans.plan_at self.old (step.Call client name.now op.now))) }
         ensures after { OnOk result (self.new ≡ plans.seats_after self.old (plans.plan_at self.old (step.Call client name.now op.now))) }
         ensures err { OnErr result (self.new.is_spent ≡ true) }
     {
@@ -222,7 +222,7 @@ impl Seats {
         requires whole { self.old.is_spent ≡ false }
         requires room { self.old.calls < 2 ^ 32 }
         requires known { client ≤ length self.old.seats }
-        ensures ok { IfOk result (λ s. s ≡ plans.step_of (plans.plan_at self.old (step.Query client level name.now query.now))) }
+        ensures ok { IfOk result (λ s. s ≡ plans.seat_step_of (plans.plan_at self.old (step.Query client level name.now query.now))) }
         ensures after { OnOk result (self.new ≡ plans.seats_after self.old (plans.plan_at self.old (step.Query client level name.now query.now))) }
         ensures err { OnErr result (self.new.is_spent ≡ true) }
     {
@@ -246,7 +246,7 @@ impl Seats {
         requires whole { self.old.is_spent ≡ false }
         requires room { self.old.calls < 2 ^ 32 }
         requires known { client ≤ length self.old.seats }
-        ensures ok { IfOk result (λ s. s ≡ plans.step_of (plans.receipt_at self.old client from payload.now)) }
+        ensures ok { IfOk result (λ s. s ≡ plans.seat_step_of (plans.receipt_at self.old client from payload.now)) }
         ensures after { OnOk result (self.new ≡ plans.seats_after self.old (plans.receipt_at self.old client from payload.now)) }
         ensures err { OnErr result (self.new.is_spent ≡ true) }
     {

@@ -1,5 +1,5 @@
-use Rattle.spec_reading.proofs.Laws.{one_spelling}
-use Rattle.spec_reading.proofs.Packets.{payload_reads}
+use Rattle.law_reading.proofs.Laws.{one_spelling}
+use Rattle.law_reading.proofs.Packets.{payload_reads}
 use Rattle.law_reading.proofs.payload_has_one_spelling.Goals as goal
 
 pub returns : goal.returns

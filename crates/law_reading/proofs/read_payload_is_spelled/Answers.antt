@@ -1,5 +1,5 @@
-use Rattle.spec_reading.proofs.Laws.{of_read}
-use Rattle.spec_reading.proofs.Packets.{payload_reads}
+use Rattle.law_reading.proofs.Laws.{of_read}
+use Rattle.law_reading.proofs.Packets.{payload_reads}
 use Rattle.law_reading.proofs.read_payload_is_spelled.Goals as goal
 
 pub returns-clause-at : goal.returns-clause-at

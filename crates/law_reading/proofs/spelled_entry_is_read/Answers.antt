@@ -1,5 +1,5 @@
-use Rattle.spec_reading.proofs.Laws.{read_of}
-use Rattle.spec_reading.proofs.Entries.{entry_reads}
+use Rattle.law_reading.proofs.Laws.{read_of}
+use Rattle.law_reading.proofs.Entries.{entry_reads}
 use Rattle.law_reading.proofs.spelled_entry_is_read.Goals as goal
 
 pub returns-clause-at : goal.returns-clause-at

@@ -1,5 +1,5 @@
-use Rattle.spec_reading.proofs.Laws.{read_of}
-use Rattle.spec_reading.proofs.Packets.{payload_reads}
+use Rattle.law_reading.proofs.Laws.{read_of}
+use Rattle.law_reading.proofs.Packets.{payload_reads}
 use Rattle.law_reading.proofs.spelled_payload_is_read.Goals as goal
 
 pub returns-clause-at : goal.returns-clause-at

@@ -1,6 +1,6 @@
 use Rattle.std.proofs.Common.{refl}
-use Rattle.spec_reading.proofs.Laws.{part_of}
-use Rattle.spec_reading.proofs.Packets.{payload_reads}
+use Rattle.law_reading.proofs.Laws.{part_of}
+use Rattle.law_reading.proofs.Packets.{payload_reads}
 use Rattle.law_reading.proofs.torn_payload_is_a_part.Goals as goal
 
 pub returns-clause-at : goal.returns-clause-at

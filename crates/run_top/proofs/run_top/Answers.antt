@@ -11,7 +11,7 @@ use Rattle.run_top.proofs.run_top.Goals as goal
 pub returns-in-Ok-put-clause-headline : goal.returns-in-Ok-put-clause-headline
 returns-in-Ok-put-clause-headline g c = λ tells.
     let asked = answers.form_asked (map string_bytes c.args.words.now) in
-    let states = matching.states_of g.S.NodeStore.told g.S.NodeStore.needs_load c.report.new.stores.items in
+    let states = matching.store_states_of g.S.NodeStore.told g.S.NodeStore.needs_load c.report.new.stores.items in
     let before = g.O.Sink.content c.args.output.now in
     let now = g.O.Sink.content c.put.new.self in
     lemmas.ended_so c.ended.result c.in-Ok.written.end (g.I.Source.content c.args.input.now)

@@ -8,9 +8,9 @@ use Rattle.script_run.proofs.lines.deliver_all.Given as goal
 -- whatever the deliveries that come lead to, all of them lead to
 abbrev pub invariant-packets : goal.invariant-packets
 invariant-packets g l = record {
-  ready : in_code.IsReady l.world (matching.states_of g.S.NodeStore.told g.S.NodeStore.needs_load l.stores.items);
-  telling : matching.AreTelling (matching.states_of g.S.NodeStore.told g.S.NodeStore.needs_load l.fn.stores.items) → matching.AreTelling (matching.states_of g.S.NodeStore.told g.S.NodeStore.needs_load l.stores.items);
-  leads : matching.AreTelling (matching.states_of g.S.NodeStore.told g.S.NodeStore.needs_load l.fn.stores.items) → carrying.LeadsOn (in_code.so_far l.fn.world) (in_code.so_far l.world);
+  ready : in_code.MayGoOn l.world (matching.store_states_of g.S.NodeStore.told g.S.NodeStore.needs_load l.stores.items);
+  telling : matching.AreTelling (matching.store_states_of g.S.NodeStore.told g.S.NodeStore.needs_load l.fn.stores.items) → matching.AreTelling (matching.store_states_of g.S.NodeStore.told g.S.NodeStore.needs_load l.stores.items);
+  leads : matching.AreTelling (matching.store_states_of g.S.NodeStore.told g.S.NodeStore.needs_load l.fn.stores.items) → carrying.DeliversOn (in_code.so_far l.fn.world) (in_code.so_far l.world);
 }
 
 abbrev pub decreases-packets : goal.decreases-packets

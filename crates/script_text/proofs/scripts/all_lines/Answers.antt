@@ -2,7 +2,7 @@
 use Rattle.std.proofs.Common.{◌≡◌, ℕ, List, true, ap, ◌∙◌}
 use Rattle.std.specs.Prelude.{None, Ok, option_map}
 use Rattle.spec_script.specs.Scripts as scripts
-use Rattle.spec_script.proofs.LineLemmas.{after_first-last}
+use Rattle.script_text.proofs.LineLemmas.{after_first-last}
 use Rattle.script_text.specs.ReadScripts as read_scripts
 use Rattle.script_text.specs.Drafts as drafts
 use Rattle.script_text.proofs.scripts.all_lines.Goals as goal

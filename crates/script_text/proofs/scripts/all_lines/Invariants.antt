@@ -2,7 +2,7 @@ use Rattle.std.proofs.Common.{◌≡◌, ◌+◌, ◌≤◌, ◌^◌, length}
 use Rattle.std.specs.Prelude.{None}
 use Rattle.std.specs.List.{slice_split}
 use Rattle.spec_script.specs.Scripts as scripts
-use Rattle.spec_script.proofs.LineLemmas.{newline}
+use Rattle.script_text.proofs.LineLemmas.{newline}
 use Rattle.script_text.proofs.scripts.all_lines.Given as goal
 
 abbrev pub invariant-lines : goal.invariant-lines

@@ -1,7 +1,7 @@
 use Rattle.std.proofs.Common.{◌≡◌, ℕ, ◌+◌, ◌-◌, ◌∷◌, List, arith, length, take, drop, sym, ◌∙◌, ap}
 use Rattle.std.specs.List.{slice_split}
 use Rattle.std.proofs.lemmas.List.{length-drop, take_all}
-use Rattle.spec_script.proofs.LineLemmas.{newline, split_at_newline, split_without_newline}
+use Rattle.script_text.proofs.LineLemmas.{newline, split_at_newline, split_without_newline}
 use Rattle.script_text.proofs.scripts.cut_line.Goals as goal
 
 pub returns-in-Some : goal.returns-in-Some

@@ -1,5 +1,5 @@
 use Rattle.std.proofs.Common.{sym, ◌∙◌}
-use Rattle.spec_script.proofs.LineLemmas.{holds_last_byte-split}
+use Rattle.script_text.proofs.LineLemmas.{holds_last_byte-split}
 use Rattle.script_text.proofs.scripts.ends.Goals as goal
 
 pub returns-in-Some : goal.returns-in-Some

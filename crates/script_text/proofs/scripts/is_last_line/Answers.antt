@@ -1,7 +1,7 @@
 use Rattle.std.proofs.Common.{◌≡◌, ℕ, List, Bool, true, false, refl, sym, not, Bor}
 use Rattle.std.specs.Prelude.{Option, Some, None, is_some}
 use Rattle.spec_script.specs.Scripts as scripts
-use Rattle.spec_script.proofs.LineLemmas.{is_empty-split}
+use Rattle.script_text.proofs.LineLemmas.{is_empty-split}
 use Rattle.script_text.specs.ReadScripts as read_scripts
 use Rattle.script_text.proofs.scripts.is_last_line.Goals as goal
 

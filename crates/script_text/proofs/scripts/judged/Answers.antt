@@ -1,6 +1,6 @@
 use Rattle.std.proofs.Common.{sym, arith}
 use Rattle.std.proofs.lemmas.List.{length-take}
-use Rattle.spec_script.proofs.LineLemmas.{judged_bytes-all, judged_bytes-first}
+use Rattle.script_text.proofs.LineLemmas.{judged_bytes-all, judged_bytes-first}
 use Rattle.script_text.proofs.scripts.judged.Goals as goal
 
 pub returns-then-bytes-gt-MAX_SCRIPT-clause-judged : goal.returns-then-bytes-gt-MAX_SCRIPT-clause-judged

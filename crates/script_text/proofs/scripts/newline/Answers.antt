@@ -1,7 +1,7 @@
 use Rattle.std.proofs.Common.{rules, tests}
 use Rattle.std.proofs.lemmas.Iterator.{YieldsList-from_slice}
 use Rattle.std.proofs.lemmas.Iterator.Search.{position_from_yields_List}
-use Rattle.spec_script.proofs.LineLemmas.{newline}
+use Rattle.script_text.proofs.LineLemmas.{newline}
 use Rattle.script_text.proofs.scripts.newline.Goals as goal
 
 pub returns : goal.returns

@@ -5,7 +5,7 @@ use Rattle.std.proofs.lemmas.List.Splits.{length-slice_split}
 use Rattle.std.proofs.lemmas.List.Sums.{count_by-le-length}
 use Rattle.ax_types.specs.declared.scripts.Script.{Script}
 use Rattle.spec_script.specs.Scripts as scripts
-use Rattle.spec_script.proofs.LineLemmas.{is_too_long-is, newline}
+use Rattle.script_text.proofs.LineLemmas.{is_too_long-is, newline}
 use Rattle.script_text.specs.ReadScripts as read_scripts
 use Rattle.script_text.proofs.scripts.read_script.Goals as goal
 

@@ -60,4 +60,4 @@ returns-clause-matches c states m =
     let up : views.stands_up h.standing ≡ true = places.up_at t c.args.node i hs c.self.inside.is_spent true h c.args.self.now c.self.view_is place read c.requires.up in
     let before : matching.StoresMatch (views.hosts_from (length hs) t 1 hs) states = subst (λ (s : plans.OpenHosts). matching.StoresMatch s.hosts states) (sym c.self.view_is) m in
     subst (λ n. matching.StoresMatch (views.hosts_from n t 1 (set hs i new)) states) (sym (length-set hs i new))
-    (same_kept (length hs) t c.args.node i hs h new states place read (ap (λ (x : Host). views.kept_of x.standing) c.fall.ensures) (ap (λ (x : Host). views.stake_of x.standing) c.fall.ensures ∙ sym (places.stake_none h.standing up)) (λ u. up) before)
+    (same_kept (length hs) t c.args.node i hs h new states place read (ap (λ (x : Host). views.kept_for_sure x.standing) c.fall.ensures) (ap (λ (x : Host). views.stake_of x.standing) c.fall.ensures ∙ sym (places.stake_none h.standing up)) (λ u. up) before)

@@ -29,7 +29,7 @@ index_mut-requires-2 g c =
     let told = g.S.NodeStore.told in
     let needs = g.S.NodeStore.needs_load in
     let within : i < length hs = omega (arith, c.index_of-index.ensures, places.up_within c.args.self.now.hosts k (among.may_be_up k (length c.args.self.now.hosts) (lists.at_place c.args.self.now.hosts k) c.args.input.now c.requires.may), ap (λ (s : plans.OpenHosts). length s.hosts) c.self.view_is, places.length_hosts (length hs) t 1 hs) in
-    let matches : matching.StoresMatch (views.hosts_from (length hs) t 1 hs) (matching.states_of told needs xs) = subst (λ (s : plans.OpenHosts). matching.StoresMatch s.hosts (matching.states_of told needs xs)) (sym c.self.view_is) c.requires.matches in
+    let matches : matching.StoresMatch (views.hosts_from (length hs) t 1 hs) (matching.store_states_of told needs xs) = subst (λ (s : plans.OpenHosts). matching.StoresMatch s.hosts (matching.store_states_of told needs xs)) (sym c.self.view_is) c.requires.matches in
     let stored : i < length xs = omega (arith, within, beside.store_within told needs (length hs) t hs xs matches) in
     omega (arith, stored)
 
@@ -58,7 +58,7 @@ serve-requires-clause-matches g c =
     let needs = g.S.NodeStore.needs_load in
     let place : suc i ≡ k = omega (arith, c.index_of-index.ensures) in
     let within : i < length hs = omega (arith, c.index_of-index.ensures, places.up_within c.args.self.now.hosts k (among.may_be_up k (length c.args.self.now.hosts) (lists.at_place c.args.self.now.hosts k) c.args.input.now c.requires.may), ap (λ (s : plans.OpenHosts). length s.hosts) c.self.view_is, places.length_hosts (length hs) t 1 hs) in
-    let matches : matching.StoresMatch (views.hosts_from (length hs) t 1 hs) (matching.states_of told needs xs) = subst (λ (s : plans.OpenHosts). matching.StoresMatch s.hosts (matching.states_of told needs xs)) (sym c.self.view_is) c.requires.matches in
+    let matches : matching.StoresMatch (views.hosts_from (length hs) t 1 hs) (matching.store_states_of told needs xs) = subst (λ (s : plans.OpenHosts). matching.StoresMatch s.hosts (matching.store_states_of told needs xs)) (sym c.self.view_is) c.requires.matches in
     let stored : i < length xs = omega (arith, within, beside.store_within told needs (length hs) t hs xs matches) in
     let h = c.index_mut.result.now in
     let read : slice_get hs i ≡ Some h = slice_get_read hs (length hs) i h refl within c.index_mut.ensures.value in
@@ -87,7 +87,7 @@ returns-in_err-served-clause-telling g c =
     let needs = g.S.NodeStore.needs_load in
     let place : suc i ≡ k = omega (arith, c.index_of-index.ensures) in
     let within : i < length hs = omega (arith, c.index_of-index.ensures, places.up_within c.args.self.now.hosts k (among.may_be_up k (length c.args.self.now.hosts) (lists.at_place c.args.self.now.hosts k) c.args.input.now c.requires.may), ap (λ (s : plans.OpenHosts). length s.hosts) c.self.view_is, places.length_hosts (length hs) t 1 hs) in
-    let matches : matching.StoresMatch (views.hosts_from (length hs) t 1 hs) (matching.states_of told needs xs) = subst (λ (s : plans.OpenHosts). matching.StoresMatch s.hosts (matching.states_of told needs xs)) (sym c.self.view_is) c.requires.matches in
+    let matches : matching.StoresMatch (views.hosts_from (length hs) t 1 hs) (matching.store_states_of told needs xs) = subst (λ (s : plans.OpenHosts). matching.StoresMatch s.hosts (matching.store_states_of told needs xs)) (sym c.self.view_is) c.requires.matches in
     let stored : i < length xs = omega (arith, within, beside.store_within told needs (length hs) t hs xs matches) in
     let x = c.index_mut-2.result.now in
     let readx : slice_get xs i ≡ Some x = slice_get_read xs (length xs) i x refl stored c.index_mut-2.ensures.value in
@@ -114,7 +114,7 @@ returns-clause-telling g c =
     let needs = g.S.NodeStore.needs_load in
     let place : suc i ≡ k = omega (arith, c.index_of-index.ensures) in
     let within : i < length hs = omega (arith, c.index_of-index.ensures, places.up_within c.args.self.now.hosts k (among.may_be_up k (length c.args.self.now.hosts) (lists.at_place c.args.self.now.hosts k) c.args.input.now c.requires.may), ap (λ (s : plans.OpenHosts). length s.hosts) c.self.view_is, places.length_hosts (length hs) t 1 hs) in
-    let matches : matching.StoresMatch (views.hosts_from (length hs) t 1 hs) (matching.states_of told needs xs) = subst (λ (s : plans.OpenHosts). matching.StoresMatch s.hosts (matching.states_of told needs xs)) (sym c.self.view_is) c.requires.matches in
+    let matches : matching.StoresMatch (views.hosts_from (length hs) t 1 hs) (matching.store_states_of told needs xs) = subst (λ (s : plans.OpenHosts). matching.StoresMatch s.hosts (matching.store_states_of told needs xs)) (sym c.self.view_is) c.requires.matches in
     let stored : i < length xs = omega (arith, within, beside.store_within told needs (length hs) t hs xs matches) in
     let x = c.index_mut-2.result.now in
     let readx : slice_get xs i ≡ Some x = slice_get_read xs (length xs) i x refl stored c.index_mut-2.ensures.value in
@@ -131,7 +131,7 @@ returns-in_err-served-clause-part g c =
     let needs = g.S.NodeStore.needs_load in
     let place : suc i ≡ k = omega (arith, c.index_of-index.ensures) in
     let within : i < length hs = omega (arith, c.index_of-index.ensures, places.up_within c.args.self.now.hosts k (among.may_be_up k (length c.args.self.now.hosts) (lists.at_place c.args.self.now.hosts k) c.args.input.now c.requires.may), ap (λ (s : plans.OpenHosts). length s.hosts) c.self.view_is, places.length_hosts (length hs) t 1 hs) in
-    let matches : matching.StoresMatch (views.hosts_from (length hs) t 1 hs) (matching.states_of told needs xs) = subst (λ (s : plans.OpenHosts). matching.StoresMatch s.hosts (matching.states_of told needs xs)) (sym c.self.view_is) c.requires.matches in
+    let matches : matching.StoresMatch (views.hosts_from (length hs) t 1 hs) (matching.store_states_of told needs xs) = subst (λ (s : plans.OpenHosts). matching.StoresMatch s.hosts (matching.store_states_of told needs xs)) (sym c.self.view_is) c.requires.matches in
     let stored : i < length xs = omega (arith, within, beside.store_within told needs (length hs) t hs xs matches) in
     let h = c.index_mut.result.now in
     let read : slice_get hs i ≡ Some h = slice_get_read hs (length hs) i h refl within c.index_mut.ensures.value in
@@ -139,7 +139,7 @@ returns-in_err-served-clause-part g c =
     let readx : slice_get xs i ≡ Some x = slice_get_read xs (length xs) i x refl stored c.index_mut-2.ensures.value in
     let up : views.stands_up h.standing ≡ true = places.up_at t k i hs c.self.inside.is_spent true h c.args.self.now c.self.view_is place read (among.may_be_up k (length c.args.self.now.hosts) (lists.at_place c.args.self.now.hosts k) c.args.input.now c.requires.may) in
     among.on_err_here c.from_residual.result _
-    (subst (λ (s : plans.OpenHosts). matching.KeepsPart (lists.at_place s.hosts k) c.args.input.now (lists.at_place (matching.states_of told needs xs) k) (lists.at_place (matching.states_of told needs (set xs i c.serve.new.store)) k)) c.self.view_is
+    (subst (λ (s : plans.OpenHosts). matching.KeepsPart (lists.at_place s.hosts k) c.args.input.now (lists.at_place (matching.store_states_of told needs xs) k) (lists.at_place (matching.store_states_of told needs (set xs i c.serve.new.store)) k)) c.self.view_is
     (beside.keeps_part told needs (length hs) t k i hs xs h x c.serve.new.store c.args.input.now place read readx up c.in_err-served.ensures.part))
 
 pub index-requires : goal.index-requires
@@ -206,8 +206,8 @@ returns-clause-matches g c =
     let needs = g.S.NodeStore.needs_load in
     let place : suc i ≡ k = omega (arith, c.index_of-index.ensures) in
     let within : i < length hs = omega (arith, c.index_of-index.ensures, places.up_within c.args.self.now.hosts k (among.may_be_up k (length c.args.self.now.hosts) (lists.at_place c.args.self.now.hosts k) c.args.input.now c.requires.may), ap (λ (s : plans.OpenHosts). length s.hosts) c.self.view_is, places.length_hosts (length hs) t 1 hs) in
-    let matches : matching.StoresMatch (views.hosts_from (length hs) t 1 hs) (matching.states_of told needs xs) = subst (λ (s : plans.OpenHosts). matching.StoresMatch s.hosts (matching.states_of told needs xs)) (sym c.self.view_is) c.requires.matches in
+    let matches : matching.StoresMatch (views.hosts_from (length hs) t 1 hs) (matching.store_states_of told needs xs) = subst (λ (s : plans.OpenHosts). matching.StoresMatch s.hosts (matching.store_states_of told needs xs)) (sym c.self.view_is) c.requires.matches in
     let new = c.serve.new.self in
     let y = c.serve.new.store in
-    subst (λ n. matching.StoresMatch (views.hosts_from n t 1 (set hs i new)) (matching.states_of told needs (set xs i y))) (sym (length-set hs i new))
+    subst (λ n. matching.StoresMatch (views.hosts_from n t 1 (set hs i new)) (matching.store_states_of told needs (set xs i y))) (sym (length-set hs i new))
     (beside.stores_set told needs (length hs) t k i hs xs new y place matches c.in_ok-served.ensures.matches)

@@ -23,8 +23,8 @@ use Rattle.ax_types.specs.declared.ops.Query.TheVariants as query
 use Rattle.spec_wire.specs.Ranges as ranges
 use Rattle.spec_wire.specs.OperationBytes as operation_bytes
 use Rattle.spec_reading.specs.ReadQueries as read_queries
-use Rattle.spec_reading.proofs.Readers.{Reads, exact_bind, exact_ok, exact_wrong, exact_tag, exact_byte, exact_one, exact_two, stable_bind, stable_ok, stable_wrong, stable_if, stable_byte, stable_one, stable_two, again_one, again_two}
-use Rattle.spec_reading.proofs.Fields.{name_reads, text_reads}
+use Rattle.law_reading.proofs.Readers.{Reads, exact_bind, exact_ok, exact_wrong, exact_tag, exact_byte, exact_one, exact_two, stable_bind, stable_ok, stable_wrong, stable_if, stable_byte, stable_one, stable_two, again_one, again_two}
+use Rattle.law_reading.proofs.Fields.{name_reads, text_reads}
 
 map_query_again : (x : MapQuery) (rest : List ℕ) → ranges.FitsMapQuery x → read_queries.map_query_at (operation_bytes.map_query_bytes x ++ rest) ≡ Ok (x, rest)
 unfolding read_queries.map_query_at

@@ -12,8 +12,8 @@ use Rattle.spec_wire.specs.Ranges as ranges
 use Rattle.spec_wire.specs.OperationBytes as operation_bytes
 use Rattle.spec_wire.specs.Spelling as wire_spelling
 use Rattle.spec_reading.specs.ReadReplies as read_replies
-use Rattle.spec_reading.proofs.Readers.{Reads, exact_bind, exact_ok, exact_as, exact_wrong, exact_tag, exact_byte, exact_one, exact_two, exact_three, stable_bind, stable_ok, stable_wrong, stable_if, stable_byte, stable_one, stable_two, stable_three, again_one, again_two, again_three, many_reads}
-use Rattle.spec_reading.proofs.Fields.{name_reads, text_reads, i64_reads, u64_reads, u32_reads}
+use Rattle.law_reading.proofs.Readers.{Reads, exact_bind, exact_ok, exact_as, exact_wrong, exact_tag, exact_byte, exact_one, exact_two, exact_three, stable_bind, stable_ok, stable_wrong, stable_if, stable_byte, stable_one, stable_two, stable_three, again_one, again_two, again_three, many_reads}
+use Rattle.law_reading.proofs.Fields.{name_reads, text_reads, i64_reads, u64_reads, u32_reads}
 
 -- a reply has a spelling
 abbrev pub IsReply : Reply → Type 0

@@ -6,12 +6,12 @@ use Rattle.spec_raft.specs.Log as logs
 use Rattle.spec_past.specs.Matching as matchings
 use Rattle.spec_past.specs.Polls as polls
 use Rattle.spec_past.specs.Past as pasts
-use Rattle.spec_past.proofs.Logs.{agree_back, agree_on, agree_less, le_or_lt, take_less}
-use Rattle.spec_past.proofs.Growth.{done_grows, same_log}
-use Rattle.spec_past.proofs.Polls.{putting, put2_same, put2_other, same_or}
+use Rattle.law_past.proofs.Logs.{agree_back, agree_on, agree_less, le_or_lt, take_less}
+use Rattle.law_past.proofs.Growth.{done_grows, same_log}
+use Rattle.law_past.proofs.Polls.{putting, put2_same, put2_other, same_or}
 use Rattle.spec_raft.proofs.Counting.{passing}
-use Rattle.spec_past.proofs.Safety.{safety}
-use Rattle.spec_past.proofs.Nodes.{still}
+use Rattle.law_past.proofs.Safety.{safety}
+use Rattle.law_past.proofs.Nodes.{still}
 
 pub putting2 : {X : Type 0} (P : ℕ → ℕ → X → Type 0) (f : ℕ → ℕ → X) (t i : ℕ) (x : X) → P t i x → ((s v : ℕ) → (s ≢ t) ⊎ (v ≢ i) → P s v (f s v)) → (s v : ℕ) → P s v (polls.put2 f t i x s v)
 putting2 P f t i x here there s v = go (same_or s t) (same_or v i)

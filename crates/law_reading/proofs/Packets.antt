@@ -18,11 +18,11 @@ use Rattle.spec_wire.specs.Ranges as ranges
 use Rattle.spec_wire.specs.OperationBytes as operation_bytes
 use Rattle.spec_wire.specs.Spelling as wire_spelling
 use Rattle.spec_reading.specs.Packets as packets
-use Rattle.spec_reading.proofs.Readers.{Reads, IsStable, IsExact, exact_bind, exact_ok, exact_as, exact_wrong, exact_if, exact_tag, exact_byte, exact_two, exact_three, stable_bind, stable_ok, stable_wrong, stable_if, stable_byte, stable_two, stable_three, again_two, again_three, again_bind, many_reads}
-use Rattle.spec_reading.proofs.Fields.{name_reads, u64_reads, u32_reads, client_reads, truth_reads, within_reads, small_reads, and_true, both}
-use Rattle.spec_reading.proofs.Queries.{query_reads}
-use Rattle.spec_reading.proofs.Answers.{event_reads, reply_reads, IsReply}
-use Rattle.spec_reading.proofs.Entries.{entry_reads, again_command, again_keep, exact_command, exact_keep, stable_command, stable_keep}
+use Rattle.law_reading.proofs.Readers.{Reads, IsStable, IsExact, exact_bind, exact_ok, exact_as, exact_wrong, exact_if, exact_tag, exact_byte, exact_two, exact_three, stable_bind, stable_ok, stable_wrong, stable_if, stable_byte, stable_two, stable_three, again_two, again_three, again_bind, many_reads}
+use Rattle.law_reading.proofs.Fields.{name_reads, u64_reads, u32_reads, client_reads, truth_reads, within_reads, small_reads, and_true, both}
+use Rattle.law_reading.proofs.Queries.{query_reads}
+use Rattle.law_reading.proofs.Answers.{event_reads, reply_reads, IsReply}
+use Rattle.law_reading.proofs.Entries.{entry_reads, again_command, again_keep, exact_command, exact_keep, stable_command, stable_keep}
 
 -- ---- levels, ways to end, and reaches
 

@@ -7,12 +7,12 @@ use Rattle.spec_past.specs.Polls as polls
 use Rattle.spec_past.specs.Past as pasts
 use Rattle.spec_past.specs.PastMoves as past_moves
 use Rattle.spec_past.specs.Later as laters
-use Rattle.spec_past.proofs.Growth.{quorum_grows, longer, same_log}
-use Rattle.spec_past.proofs.Polls.{putting, put_other, unreached, unvoted, first_to_lead}
-use Rattle.spec_past.proofs.Commits.{putting2, grown}
-use Rattle.spec_past.proofs.Logs.{agree_on, agree_less}
-use Rattle.spec_past.proofs.Agreement.{move_sound}
-use Rattle.spec_past.proofs.Nodes.{still}
+use Rattle.law_past.proofs.Growth.{quorum_grows, longer, same_log}
+use Rattle.law_past.proofs.Polls.{putting, put_other, unreached, unvoted, first_to_lead}
+use Rattle.law_past.proofs.Commits.{putting2, grown}
+use Rattle.law_past.proofs.Logs.{agree_on, agree_less}
+use Rattle.law_past.proofs.Agreement.{move_sound}
+use Rattle.law_past.proofs.Nodes.{still}
 
 -- a change of one member, and of nothing that is remembered
 member_later : (w v : pasts.Past) (j : ℕ) (m : polls.Voter) → pasts.term w j ≤ m.term → v.poll.member ≡ polls.put w.poll.member j m → v.poll.cast ≡ w.poll.cast → v.candidate_log ≡ w.candidate_log → v.poll.led ≡ w.poll.led → v.poll.leader ≡ w.poll.leader → v.leader_log ≡ w.leader_log → v.told ≡ w.told → v.acked ≡ w.acked → laters.Later w v

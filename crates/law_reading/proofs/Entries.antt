@@ -9,9 +9,9 @@ use Rattle.spec_wire.specs.Ranges as ranges
 use Rattle.spec_wire.specs.OperationBytes as operation_bytes
 use Rattle.spec_wire.specs.Spelling as spelling
 use Rattle.spec_reading.specs.Packets as packets
-use Rattle.spec_reading.proofs.Readers.{Reads, IsStable, IsExact, exact_bind, exact_ok, exact_wrong, exact_tag, exact_byte, exact_one, exact_two, stable_bind, stable_ok, stable_wrong, stable_if, stable_byte, stable_one, stable_two, again_one, again_two, again_bind}
-use Rattle.spec_reading.proofs.Fields.{name_reads, u64_reads, client_reads}
-use Rattle.spec_reading.proofs.Operations.{op_reads}
+use Rattle.law_reading.proofs.Readers.{Reads, IsStable, IsExact, exact_bind, exact_ok, exact_wrong, exact_tag, exact_byte, exact_one, exact_two, stable_bind, stable_ok, stable_wrong, stable_if, stable_byte, stable_one, stable_two, again_one, again_two, again_bind}
+use Rattle.law_reading.proofs.Fields.{name_reads, u64_reads, client_reads}
+use Rattle.law_reading.proofs.Operations.{op_reads}
 
 -- ---- fields that bodies and payloads share
 

@@ -9,7 +9,7 @@ use Rattle.spec_past.specs.Matching as matchings
 use Rattle.spec_raft.proofs.Counting.{count-wider}
 use Rattle.spec_past.specs.Later as laters
 use Rattle.spec_past.specs.Past as pasts
-use Rattle.spec_past.proofs.Logs.{agree_on, agree_less, agree_term}
+use Rattle.law_past.proofs.Logs.{agree_on, agree_less, agree_term}
 
 pub agree_grows : (L M : ℕ → List Entry) (g : List Entry) (s p : ℕ) → laters.Grows L M → matchings.Agree g (L s) p → matchings.Agree g (M s) p
 agree_grows L M g s p up a = agree_on g (L s) (M s) p a (agree_less (L s) (M s) (length (L s)) p a.right (up s))

@@ -23,8 +23,8 @@ use Rattle.ax_types.specs.declared.ops.Op.TheVariants as op
 use Rattle.spec_wire.specs.Ranges as ranges
 use Rattle.spec_wire.specs.OperationBytes as operation_bytes
 use Rattle.spec_reading.specs.ReadOperations as read_operations
-use Rattle.spec_reading.proofs.Readers.{Reads, exact_bind, exact_ok, exact_wrong, exact_tag, exact_byte, exact_one, exact_two, exact_three, stable_bind, stable_ok, stable_wrong, stable_if, stable_byte, stable_one, stable_two, stable_three, again_one, again_two, again_three}
-use Rattle.spec_reading.proofs.Fields.{name_reads, text_reads, i64_reads, life_reads}
+use Rattle.law_reading.proofs.Readers.{Reads, exact_bind, exact_ok, exact_wrong, exact_tag, exact_byte, exact_one, exact_two, exact_three, stable_bind, stable_ok, stable_wrong, stable_if, stable_byte, stable_one, stable_two, stable_three, again_one, again_two, again_three}
+use Rattle.law_reading.proofs.Fields.{name_reads, text_reads, i64_reads, life_reads}
 
 map_op_again : (x : MapOp) (rest : List ℕ) → ranges.FitsMapOp x → read_operations.map_op_at (operation_bytes.map_op_bytes x ++ rest) ≡ Ok (x, rest)
 unfolding read_operations.map_op_at

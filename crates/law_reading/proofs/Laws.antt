@@ -3,7 +3,7 @@ use Rattle.std.proofs.Common.{◌≡◌, ℕ, ◌+◌, ◌-◌, ◌≤◌, List,
 use Rattle.std.proofs.lemmas.List.{length-append, take_at}
 use Rattle.spec_reading.specs.Reading.{◌>>=◌}
 use Rattle.spec_reading.specs.Reading as reading_reading
-use Rattle.spec_reading.proofs.Readers.{Stays, Reads, ok_is}
+use Rattle.law_reading.proofs.Readers.{Stays, Reads, ok_is}
 
 abbrev ok : {A : Type 0} → A × List ℕ → reading_reading.Reading A
 ok x = Ok x

@@ -5,8 +5,8 @@ use Rattle.std.proofs.lemmas.Bool.Decides.{nat_tests}
 use Rattle.ax_types.specs.declared.entries.Entry.{Entry}
 use Rattle.spec_raft.specs.Log as logs
 use Rattle.spec_past.specs.Matching as matchings
-use Rattle.spec_past.proofs.Majorities.{common}
-use Rattle.spec_past.proofs.Logs.{agree_back, agree_less, agree_term, newer_log, completeness, le_or_lt, no_clash, not_empty}
+use Rattle.law_past.proofs.Majorities.{common}
+use Rattle.law_past.proofs.Logs.{agree_back, agree_less, agree_term, newer_log, completeness, le_or_lt, no_clash, not_empty}
 
 le_of : (a b : ℕ) → nat_le a b ≡ true → a ≤ b
 le_of a b e = grind (arith, nat_tests)

@@ -6,7 +6,7 @@ use Rattle.std.proofs.lemmas.List.{take-append-le}
 use Rattle.ax_types.specs.declared.entries.Entry.{Entry}
 use Rattle.spec_raft.specs.Log as logs
 use Rattle.spec_past.specs.Matching as matchings
-use Rattle.spec_past.proofs.Logs.{take_less, agree_term, le_or_lt}
+use Rattle.law_past.proofs.Logs.{take_less, agree_term, le_or_lt}
 
 -- a cut after k entries, where the terms at place k + 1 differ from those of the history log of t
 pub cut_keeps : (L : ℕ → List Entry) (g : List Entry) (s m x t k : ℕ) → s ≤ t → x ≤ t → suc k ≤ length g → suc k ≤ length (L t) → logs.term_at g (suc k) ≢ logs.term_at (L t) (suc k) → matchings.IsHeld L g s m x → matchings.IsHeld L (take k g) s m t

@@ -7,12 +7,12 @@ use Rattle.spec_past.specs.Matching as matchings
 use Rattle.spec_past.specs.Polls as polls
 use Rattle.spec_past.specs.Later as laters
 use Rattle.spec_past.specs.Past as pasts
-use Rattle.spec_past.proofs.Logs.{agree_back, agree_on, agree_less, agree_term, agree_time, le_or_lt}
-use Rattle.spec_past.proofs.Held.{add_keeps, elect_held}
-use Rattle.spec_past.proofs.Growth.{agree_grows, part_grows, clash_grows, held_grows, done_grows, same_log, longer, last_of_longer, time_of_longer, length_longer}
-use Rattle.spec_past.proofs.Polls.{putting, put_same, put_other, put2_same, put2_other, same_or, wins_keeps, first_to_lead}
-use Rattle.spec_past.proofs.Commits.{putting2}
-use Rattle.spec_past.proofs.Nodes.{still}
+use Rattle.law_past.proofs.Logs.{agree_back, agree_on, agree_less, agree_term, agree_time, le_or_lt}
+use Rattle.law_past.proofs.Held.{add_keeps, elect_held}
+use Rattle.law_past.proofs.Growth.{agree_grows, part_grows, clash_grows, held_grows, done_grows, same_log, longer, last_of_longer, time_of_longer, length_longer}
+use Rattle.law_past.proofs.Polls.{putting, put_same, put_other, put2_same, put2_other, same_or, wins_keeps, first_to_lead}
+use Rattle.law_past.proofs.Commits.{putting2}
+use Rattle.law_past.proofs.Nodes.{still}
 
 -- what is known of the change of the elections: only those of the term t of node j
 pub record Led (nodes : List ℕ) (w : pasts.Past) (j : ℕ) (e : Entry) (p : polls.Poll) : Type 0 where

@@ -7,13 +7,13 @@ use Rattle.spec_past.specs.Matching as matchings
 use Rattle.spec_past.specs.Polls as polls
 use Rattle.spec_past.specs.Past as pasts
 use Rattle.spec_past.specs.PastMoves as past_moves
-use Rattle.spec_past.proofs.Logs.{agree_back, agree_on, agree_less, agree_term, agree_time, le_or_lt}
-use Rattle.spec_past.proofs.Safety.{complete, safety, keeps, newest}
-use Rattle.spec_past.proofs.Polls.{raises_keeps, falls_keeps, counts_keeps}
-use Rattle.spec_past.proofs.Nodes.{votes_keep, cut_sound, extend_sound}
-use Rattle.spec_past.proofs.Commits.{forget_sound, learn_sound, tell_sound, advance_sound, commit_sound, ack_sound, laws}
-use Rattle.spec_past.proofs.Ballots.{campaign_sound, grant_sound}
-use Rattle.spec_past.proofs.Leaders.{take_sound, lead_sound}
+use Rattle.law_past.proofs.Logs.{agree_back, agree_on, agree_less, agree_term, agree_time, le_or_lt}
+use Rattle.law_past.proofs.Safety.{complete, safety, keeps, newest}
+use Rattle.law_past.proofs.Polls.{raises_keeps, falls_keeps, counts_keeps}
+use Rattle.law_past.proofs.Nodes.{votes_keep, cut_sound, extend_sound}
+use Rattle.law_past.proofs.Commits.{forget_sound, learn_sound, tell_sound, advance_sound, commit_sound, ack_sound, laws}
+use Rattle.law_past.proofs.Ballots.{campaign_sound, grant_sound}
+use Rattle.law_past.proofs.Leaders.{take_sound, lead_sound}
 
 pub move_sound : (nodes : List ℕ) (w : pasts.Past) (m : past_moves.PastMove) → past_moves.Fits nodes w m → pasts.Sound nodes w → pasts.Sound nodes (past_moves.moves w m)
 move_sound nodes w (past_moves.Raise j t) f s = votes_keep nodes w j (record { term = t; vote = 0; role = 0; votes = polls.nobody }) (omega (arith, f)) (λ h. absurd (omega (arith, h))) (λ h. absurd (omega (arith, h))) (raises_keeps nodes w.poll j t f s.fair) s

@@ -3,7 +3,7 @@ use Rattle.std.specs.Prelude.{◌⊎◌, ◌≢◌, Bool, true, false, nat_eq, i
 use Rattle.std.proofs.lemmas.Bool.Decides.{nat_tests}
 use Rattle.spec_past.specs.Matching as matchings
 use Rattle.spec_past.specs.Polls as polls
-use Rattle.spec_past.proofs.Majorities.{common}
+use Rattle.law_past.proofs.Majorities.{common}
 
 eq_of : (a b : ℕ) → nat_eq a b ≡ true → a ≡ b
 eq_of a b e = grind (arith, nat_tests)

@@ -1,4 +1,4 @@
--- The store calls of a step leave in the store what the node keeps after it.
+-- The log after a step is the one before it without what was cut, and with what was added.
 use Rattle.std.proofs.Common.{◌≡◌, ℕ, suc, ◌-◌, List, [], ◌∷◌, ◌++◌, length, refl, ap, sym, ◌∙◌, arith}
 use Rattle.std.specs.Prelude.{Bool, true, false, ◌&&◌, not, nat_eq, nat_lt, min, Option, Some, None, if◌then◌else◌}
 use Rattle.std.proofs.lemmas.Bool.Decides.{nat_tests}
@@ -118,51 +118,3 @@ did_log n input.Beat = same_log n.log (nodes.beaten n) refl refl refl
 did_log n (input.Append clock bodies) = record { log_is = refl }
 did_log n input.Read = read_log n
 did_log n (input.Message from clock p) = told_log n from clock p
-
-both : (a b : Bool) → (a && b) ≡ true → (a ≡ true) × (b ≡ true)
-both true true e = (refl, refl)
-both true false e = (refl, e)
-both false true e = (e, refl)
-both false false e = (e, e)
-
-equal : (a b : ℕ) → nat_eq a b ≡ true → a ≡ b
-equal a b e = grind (arith, nat_tests)
-
-one_vote : (a b : Option ℕ) → node_steps.same_vote a b ≡ true → a ≡ b
-one_vote None None e = refl
-one_vote None (Some k) e = absurd (grind (arith, e))
-one_vote (Some j) None e = absurd (grind (arith, e))
-one_vote (Some j) (Some k) e = ap (λ x. Some x) (equal j k e)
-
-loaded : ℕ → Option ℕ → List Entry → Loaded
-loaded term vote log = record { term = term; vote = vote; log = log }
-
-vote_left : (before after : nodes.Node) (calls : List saving.Save) → saving.all_saved (nodes.kept_of before) (saving.vote_call (node_steps.vote_save before after) ++ calls) ≡ saving.all_saved (record { term = after.ballot.term; vote = after.ballot.vote; log = before.log }) calls
-vote_left before after calls = cases (nat_eq before.ballot.term after.ballot.term && node_steps.same_vote before.ballot.vote after.ballot.vote) refl
-  where
-    cases : (b : Bool) → nat_eq before.ballot.term after.ballot.term && node_steps.same_vote before.ballot.vote after.ballot.vote ≡ b
-        → saving.all_saved (nodes.kept_of before) (saving.vote_call (if b then None else Some (after.ballot.term, after.ballot.vote)) ++ calls) ≡ saving.all_saved (record { term = after.ballot.term; vote = after.ballot.vote; log = before.log }) calls
-    cases false e = refl
-    cases true e = let p = both (nat_eq before.ballot.term after.ballot.term) (node_steps.same_vote before.ballot.vote after.ballot.vote) e in
-        ap (λ t. saving.all_saved (record { term = t; vote = before.ballot.vote; log = before.log }) calls) (equal before.ballot.term after.ballot.term p.0)
-        ∙ ap (λ v. saving.all_saved (record { term = after.ballot.term; vote = v; log = before.log }) calls) (one_vote before.ballot.vote after.ballot.vote p.1)
-
-cut_left : (kept : Loaded) (cut : Option ℕ) (calls : List saving.Save) → saving.all_saved kept (saving.cut_call (node_steps.cut_save cut) ++ calls) ≡ saving.all_saved (record kept { log = logs.cut_before kept.log cut }) calls
-cut_left kept None calls = refl
-cut_left kept (Some p) calls = refl
-
-add_left : (kept : Loaded) (es : List Entry) → saving.all_saved kept (saving.add_call es) ≡ record kept { log = kept.log ++ es }
-add_left kept [] = ap (λ l. record kept { log = l }) (append_none kept.log)
-add_left kept (e ∷ es) = refl
-
--- a rule's store calls leave what the node keeps after it
-pub did_kept : (before : nodes.Node) (d : nodes.Did) → IsFollowing before.log d → saving.all_saved (nodes.kept_of before) (saving.calls_of (node_steps.saves_of before d)) ≡ nodes.kept_of d.node
-did_kept before d f =
-    vote_left before d.node (saving.cut_call (node_steps.cut_save d.cut) ++ saving.add_call d.add)
-    ∙ cut_left (record { term = d.node.ballot.term; vote = d.node.ballot.vote; log = before.log }) d.cut (saving.add_call d.add)
-    ∙ add_left (record { term = d.node.ballot.term; vote = d.node.ballot.vote; log = logs.cut_before before.log d.cut }) d.add
-    ∙ ap (λ l. record { term = d.node.ballot.term; vote = d.node.ballot.vote; log = l }) (sym f.log_is)
-
--- all store calls of a step leave what the node keeps after it
-pub step_kept : (n : nodes.Node) (i : RaftInput) → saving.all_saved (nodes.kept_of n) (saving.calls_of (node_steps.out n i).saves) ≡ nodes.kept_of (node_steps.stepped n i)
-step_kept n i = did_kept n (node_steps.did n i) (did_log n i)

@@ -6,9 +6,9 @@ use Rattle.spec_raft.specs.Log as logs
 use Rattle.spec_past.specs.Matching as matchings
 use Rattle.spec_past.specs.Polls as polls
 use Rattle.spec_past.specs.Past as pasts
-use Rattle.spec_past.proofs.Growth.{held_grows, done_grows}
-use Rattle.spec_past.proofs.Polls.{putting, put2_same, put2_other, put2_keeps, same_or, unreached, unvoted, campaigns_keeps, grants_keeps}
-use Rattle.spec_past.proofs.Nodes.{still, no_less}
+use Rattle.law_past.proofs.Growth.{held_grows, done_grows}
+use Rattle.law_past.proofs.Polls.{putting, put2_same, put2_other, put2_keeps, same_or, unreached, unvoted, campaigns_keeps, grants_keeps}
+use Rattle.law_past.proofs.Nodes.{still, no_less}
 
 -- what holds of each ballot, with one more
 each : (nodes : List ℕ) (w : pasts.Past) (t j c : ℕ) (g : List Entry) (candidate_log : ℕ → ℕ → List Entry) → pasts.Sound nodes w → w.poll.cast t j ≡ 0 → ((u k : ℕ) → (u ≢ t) ⊎ (k ≢ j) → candidate_log u k ≡ w.candidate_log u k) → (P : ℕ → ℕ → ℕ → List Entry → List Entry → Type 0) → P t j c (candidate_log t c) g → ((u v : ℕ) → w.poll.cast u v ≢ 0 → P u v (w.poll.cast u v) (w.candidate_log u (w.poll.cast u v)) (w.voter_log u v)) → (u v : ℕ) → polls.put2 w.poll.cast t j c u v ≢ 0 → P u v (polls.put2 w.poll.cast t j c u v) (candidate_log u (polls.put2 w.poll.cast t j c u v)) (polls.put2 w.voter_log t j g u v)

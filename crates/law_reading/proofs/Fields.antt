@@ -13,7 +13,7 @@ use Rattle.spec_wire.specs.NumberBytes as number_bytes
 use Rattle.spec_wire.specs.Ranges as ranges
 use Rattle.spec_reading.specs.Reading.{◌>>=◌}
 use Rattle.spec_reading.specs.Reading as reading
-use Rattle.spec_reading.proofs.Readers.{Stays, Reads, stable_bind, stable_ok, stable_wrong, stable_if, stable_byte, exact_bind, exact_ok, exact_wrong, exact_if, exact_byte, exact_tag}
+use Rattle.law_reading.proofs.Readers.{Stays, Reads, stable_bind, stable_ok, stable_wrong, stable_if, stable_byte, exact_bind, exact_ok, exact_wrong, exact_if, exact_byte, exact_tag}
 
 pub IsBytes-drop : (n : ℕ) (bytes : List ℕ) → reading.IsBytes bytes → reading.IsBytes (drop n bytes)
 IsBytes-drop n bytes h i = rw get_or-drop (h (n + i))

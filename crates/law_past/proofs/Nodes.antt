@@ -8,10 +8,10 @@ use Rattle.spec_past.specs.Matching as matchings
 use Rattle.spec_past.specs.Polls as polls
 use Rattle.spec_past.specs.Later as laters
 use Rattle.spec_past.specs.Past as pasts
-use Rattle.spec_past.proofs.Logs.{agree_back, agree_on, agree_less, agree_term, take_less}
-use Rattle.spec_past.proofs.Held.{cut_keeps, add_keeps}
-use Rattle.spec_past.proofs.Growth.{held_grows, done_grows, same_log, longer_by}
-use Rattle.spec_past.proofs.Polls.{putting}
+use Rattle.law_past.proofs.Logs.{agree_back, agree_on, agree_less, agree_term, take_less}
+use Rattle.law_past.proofs.Held.{cut_keeps, add_keeps}
+use Rattle.law_past.proofs.Growth.{held_grows, done_grows, same_log, longer_by}
+use Rattle.law_past.proofs.Polls.{putting}
 
 pub still : (L : ℕ → List Entry) → laters.Grows L L
 still L s = same_log (L s) (length (L s)) (omega arith)

@@ -14,7 +14,7 @@ use Rattle.law_race.specs.LeftOpen as left_open
 use Rattle.ax_world.specs.OpenWorlds as open_worlds
 
 -- steps led here from a cluster with empty stores: world, history and transcript are the definitions' run of the kept steps
-pub record IsReached (nodes clients timeout : ℕ) (w : open_worlds.OpenWorld) : Type 0 where
+pub record IsReachedRun (nodes clients timeout : ℕ) (w : open_worlds.OpenWorld) : Type 0 where
   pub some : 1 ≤ nodes
   pub run : headlines.IsWorldRun nodes clients timeout w.kept w.world w.transcript
 
@@ -35,13 +35,13 @@ pub record MayEndRace (timeout session : ℕ) (shown : List transcripts.Shown) (
   pub handed : handed.IsHanded (transcripts.transcript shown ++ races.unanswered_items session (transcripts.transcript shown)) history
 
 -- what was shown so far is faithful to its history and hands out once, and the stores keep the history
-pub record Stands (nodes clients timeout : ℕ) (w : open_worlds.OpenWorld) (states : List matching.StoreState) : Type 0 where
-  pub reached : IsReached nodes clients timeout w
+pub record StandsSoFar (nodes clients timeout : ℕ) (w : open_worlds.OpenWorld) (states : List matching.StoreState) : Type 0 where
+  pub reached : IsReachedRun nodes clients timeout w
   pub faithful : faithful.IsFaithful timeout (shown_by nodes clients timeout w) w.world.history
   pub handed : handed.IsHanded w.transcript w.world.history
   pub stores : StoresKeep nodes timeout w.world.history states
   pub races : (session : ℕ) → MayEndRace timeout session (shown_by nodes clients timeout w) w.world.history
 
 -- where steps led to a run, they lead on to one that stands
-abbrev pub LeadsOn : open_worlds.OpenWorld → open_worlds.OpenWorld → List matching.StoreState → Type 0
-LeadsOn before after states = (nodes clients timeout : ℕ) → IsReached nodes clients timeout before → Stands nodes clients timeout after states
+abbrev pub LeadsToStanding : open_worlds.OpenWorld → open_worlds.OpenWorld → List matching.StoreState → Type 0
+LeadsToStanding before after states = (nodes clients timeout : ℕ) → IsReachedRun nodes clients timeout before → StandsSoFar nodes clients timeout after states
