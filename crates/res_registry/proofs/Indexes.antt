@@ -19,7 +19,7 @@ use Rattle.res_registry.proofs.Found.{key_at_itself, same_key, same_key_swapped,
 use Rattle.res_registry.proofs.Known.{Elsewhere, known-pass, known-unlistened}
 use Rattle.res_registry.proofs.Quiet.{ends-unlistened, ends-end}
 use Rattle.res_registry.proofs.Single.{IsSingle-pass, IsSingle-unlistened, IsSingle-end}
-use Rattle.res_registry.proofs.Each.{Each, Each-with, Each-whole, found_whole}
+use Rattle.res_registry.proofs.Each.{Each-with, Each-whole, found_whole}
 
 -- ---- what a walk over an index rests on: the index has all that there is
 abbrev pub HasEnds : books.Book → List (ℕ × List ℕ) → Type 0
