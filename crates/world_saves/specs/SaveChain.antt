@@ -4,6 +4,7 @@ use Rattle.ax_types.specs.declared.entries.Entry.{Entry}
 use Rattle.ax_types.specs.declared.raft.Saves.{Saves}
 use Rattle.ax_types.specs.declared.refusals.StoreError.{StoreError}
 use Rattle.ax_types.specs.declared.refusals.StoreError.TheVariants as store_error
+use Rattle.ax_io.specs.Count as counts
 use Rattle.spec_node.specs.Saving as saving
 use Rattle.store_journal.specs.StoreTold as stores
 use Rattle.world_saves.specs.declared.save_chain.SaveCall.{SaveCall}
@@ -63,6 +64,11 @@ abbrev pub SavesAll : Saves → stores.Told → stores.Told → Result (Unit {0}
 SavesAll s before now (Ok _) = now ≡ told_after before (saving.calls_of s)
 SavesAll s before now (Err (save_error.Failed c)) = FailsAt s c before now
 SavesAll s before now (Err save_error.NoMemory) = IsSomeOf (saving.calls_of s) before now
+
+-- where a store call failed, the store's count of faults rose
+abbrev pub RisesIfFailed : ℕ → ℕ → Result (Unit {0}) SaveError → Type 0
+RisesIfFailed before now (Err (save_error.Failed c)) = counts.Rose before now
+RisesIfFailed before now _ = Unit {0}
 
 -- a cut leaves no more entries than are kept
 abbrev pub CutsWithinTold : Option ℕ → stores.Told → Type 0

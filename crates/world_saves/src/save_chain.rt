@@ -1,4 +1,4 @@
-ghost use Rattle.std.specs.Prelude.{◌≡◌, true, false, length, OnOk};
+ghost use Rattle.std.specs.Prelude.{◌≡◌, ◌≤◌, true, false, length, OnOk};
 ghost use Rattle.spec_node.specs.Saving as saving;
 ghost use Rattle.world_saves.specs.SaveChain as chains;
 ghost use Rattle.world_saves.specs.declared.save_chain.SaveCall.TheVariants as calls;
@@ -29,6 +29,8 @@ pub fn save_all<S: NodeStore>(store: &mut S, saves: &Saves) -> Result<(), SaveEr
     requires loaded { S.needs_load store.old ≡ false }
     requires within { chains.CutsWithinTold saves.now.cut (S.told store.old) }
     ensures saved { chains.SavesAll saves.now (S.told store.old) (S.told store.new) result }
+    ensures counted { S.faults store.old ≤ S.faults store.new }
+    ensures rises { chains.RisesIfFailed (S.faults store.old) (S.faults store.new) result }
     ensures ready { OnOk result (S.needs_load store.new ≡ false) }
 {
     save_vote(store, saves.vote)?;
@@ -43,6 +45,8 @@ fn save_vote<S: NodeStore>(
 ) -> Result<(), SaveError>
     requires loaded { S.needs_load store.old ≡ false }
     ensures made { chains.MakesCall calls.Vote (saving.vote_call vote) (S.told store.old) (S.told store.new) result }
+    ensures counted { S.faults store.old ≤ S.faults store.new }
+    ensures rises { chains.RisesIfFailed (S.faults store.old) (S.faults store.new) result }
     ensures ready { OnOk result (S.needs_load store.new ≡ false) }
 {
     match vote {
@@ -56,6 +60,8 @@ fn save_cut<S: NodeStore>(store: &mut S, cut: Option<u64>) -> Result<(), SaveErr
     requires loaded { S.needs_load store.old ≡ false }
     requires within { chains.CutsWithinTold cut (S.told store.old) }
     ensures made { chains.MakesCall calls.Cut (saving.cut_call cut) (S.told store.old) (S.told store.new) result }
+    ensures counted { S.faults store.old ≤ S.faults store.new }
+    ensures rises { chains.RisesIfFailed (S.faults store.old) (S.faults store.new) result }
     ensures ready { OnOk result (S.needs_load store.new ≡ false) }
 {
     match cut {
@@ -68,6 +74,8 @@ fn save_cut<S: NodeStore>(store: &mut S, cut: Option<u64>) -> Result<(), SaveErr
 fn save_add<S: NodeStore>(store: &mut S, added: &[Entry]) -> Result<(), SaveError>
     requires loaded { S.needs_load store.old ≡ false }
     ensures made { chains.MakesCall calls.Add (saving.add_call added.now) (S.told store.old) (S.told store.new) result }
+    ensures counted { S.faults store.old ≤ S.faults store.new }
+    ensures rises { chains.RisesIfFailed (S.faults store.old) (S.faults store.new) result }
     ensures ready { OnOk result (S.needs_load store.new ≡ false) }
 {
     if added.is_empty() {
